@@ -1,0 +1,1 @@
+// Sets of small numbers as 32-bit masks.
