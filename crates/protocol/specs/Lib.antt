@@ -1,1 +1,14 @@
+pub mod Lists
 pub mod State
+pub mod Check
+pub mod Setup
+pub mod Range
+pub mod Order
+pub mod Database
+pub mod Channel
+pub mod Scan
+pub mod Figure
+pub mod Answer
+pub mod Run
+pub mod Cases
+pub mod Marked

@@ -1,0 +1,66 @@
+-- 01, "In the channel a message is one of four kinds .. each is about one transaction. The channel is a set without
+-- order": whether a message lies there, taking one, and sending.
+use Prim.Native.Nat.{ℕ, _*_}
+use mathlib.Core.Bool.{Bool, true, false, cond, _&&_}
+use mathlib.Core.List.{List}
+use lib.Dec.{eqb}
+use lib.ListN.{getD, set}
+use Rattle.sets.specs.Set.{has, none, with, without, union, those, allBut, size}
+use Rattle.protocol.specs.Lists.{each}
+use Rattle.protocol.specs.State.{maxTxns, readyIn, txnAt, withPlaces, withChannel}
+use Rattle.protocol.specs.declared.Message.{Message}
+use Rattle.protocol.specs.declared.Message.the-variants.{Remote, Ready, Commit, Abort}
+use Rattle.protocol.specs.declared.Channel.{Channel}
+use Rattle.protocol.specs.declared.Place.{Place}
+use Rattle.protocol.specs.declared.State.{State}
+
+-- the message about t lies in the channel; Figure 2: m ∈ channel
+unfoldable pub lies : Message → ℕ → Channel → Bool
+lies Remote t c = has (c .remote) t
+lies (Ready k) t c = has (readyIn c t) k
+lies Commit t c = has (c .commit) t
+lies Abort t c = has (c .abort) t
+
+-- the channel without the message about t
+unfoldable pub taken : Message → ℕ → Channel → Channel
+taken Remote t c = record { remote = without (c .remote) t; ready = c .ready; commit = c .commit; abort = c .abort }
+taken (Ready k) t c =
+    record { remote = c .remote; ready = set (c .ready) t (without (readyIn c t) k); commit = c .commit; abort = c .abort }
+taken Commit t c = record { remote = c .remote; ready = c .ready; commit = without (c .commit) t; abort = c .abort }
+taken Abort t c = record { remote = c .remote; ready = c .ready; commit = c .commit; abort = without (c .abort) t }
+
+-- "message taken": the site without it; Figure 2: receive(m)
+abbrev pub received : Message → ℕ → Place → Place
+received m t p = withChannel p (taken m t (p .channel))
+
+-- the channel with the message about each transaction of the set ts
+unfoldable pub put : Message → ℕ → Channel → Channel
+put Remote ts c = record { remote = union (c .remote) ts; ready = c .ready; commit = c .commit; abort = c .abort }
+put (Ready k) ts c = record {
+  remote = c .remote;
+  ready = each (λ t ks. cond (has ts t) (with ks k) ks) (c .ready);
+  commit = c .commit;
+  abort = c .abort;
+}
+put Commit ts c = record { remote = c .remote; ready = c .ready; commit = union (c .commit) ts; abort = c .abort }
+put Abort ts c = record { remote = c .remote; ready = c .ready; commit = c .commit; abort = union (c .abort) ts }
+
+-- the message m into the channel of each site j about each transaction of `to j`
+unfoldable pub delivered : Message → (ℕ → ℕ) → State → State
+delivered m to s = withPlaces s (each (λ j p. withChannel p (put m (to j) (p .channel))) (s .places))
+
+-- all sites but i; Figure 2: availableNodes \ {i}
+abbrev pub others : State → ℕ → ℕ
+others s i = allBut (s .sites) i
+
+-- Figure 2: sendRMulticast, from site i to all other sites, about each transaction of ts
+abbrev pub multicast : Message → ℕ → ℕ → State → State
+multicast m i ts s = delivered m (λ j. cond (has (others s i) j) ts none) s
+
+-- Figure 2: sendRUnicast(ready) from site i, about each transaction of ts to its own home
+abbrev pub readyHome : ℕ → ℕ → State → State
+readyHome i ts s = delivered (Ready i) (λ j. those maxTxns (λ t. has ts t && eqb (txnAt s t .home) j)) s
+
+-- "Messages sent are counted by the sites in the set they go to": those of one multicast from site i
+abbrev pub multicastCount : State → ℕ → ℕ
+multicastCount s i = size (others s i)
