@@ -1,1 +1,3 @@
 pub mod Set
+pub mod Digits
+pub mod Laws

@@ -1,7 +1,7 @@
 -- Sets of small numbers as masks: k is in m exactly when digit k of m, counted from the lowest, is 1.
 -- An operation that can reach past the masks is said over their width w, and the code's masks have one width, `width`.
 -- What is in each set, and how many, is told by the laws (Laws.antt).
-use mathlib.Core.Bool.{Bool, true, false, not, cond}
+use mathlib.Core.Bool.{Bool, not, cond}
 use Prim.Native.Nat.{ℕ, zero, suc, _-_, _/_, _%_, _^_, min}
 use lib.Dec.{eqb, ltb}
 use lib.Bits.{bitAnd, bitOr}
