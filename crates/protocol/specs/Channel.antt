@@ -1,17 +1,18 @@
 -- 01, "In the channel a message is one of four kinds .. each is about one transaction. The channel is a set without
 -- order": whether a message lies there, taking one, and sending.
-use Prim.Native.Nat.{ℕ, _*_}
-use mathlib.Core.Bool.{Bool, true, false, cond, _&&_}
+use Prim.Native.Nat.{ℕ}
+use mathlib.Core.Bool.{Bool, cond, _&&_}
 use mathlib.Core.List.{List}
 use lib.Dec.{eqb}
-use lib.ListN.{getD, set}
-use Rattle.sets.specs.Set.{has, none, with, without, union, those, allBut, size}
+use lib.ListN.{set}
+use Rattle.sets.specs.Set.{has, none, with, without, union, those, allBut}
 use Rattle.protocol.specs.Lists.{each}
-use Rattle.protocol.specs.State.{maxTxns, readyIn, txnAt, withPlaces, withChannel}
+use Rattle.protocol.specs.State.{maxTxns, readyIn, txnIn, withPlaces, withChannel}
 use Rattle.protocol.specs.declared.Message.{Message}
 use Rattle.protocol.specs.declared.Message.the-variants.{Remote, Ready, Commit, Abort}
 use Rattle.protocol.specs.declared.Channel.{Channel}
 use Rattle.protocol.specs.declared.Place.{Place}
+use Rattle.protocol.specs.declared.Txn.{Txn}
 use Rattle.protocol.specs.declared.State.{State}
 
 -- the message about t lies in the channel; Figure 2: m ∈ channel
@@ -45,22 +46,23 @@ put (Ready k) ts c = record {
 put Commit ts c = record { remote = c .remote; ready = c .ready; commit = union (c .commit) ts; abort = c .abort }
 put Abort ts c = record { remote = c .remote; ready = c .ready; commit = c .commit; abort = union (c .abort) ts }
 
--- the message m into the channel of each site j about each transaction of `to j`
-unfoldable pub delivered : Message → (ℕ → ℕ) → State → State
-delivered m to s = withPlaces s (each (λ j p. withChannel p (put m (to j) (p .channel))) (s .places))
+-- the message m put into the channel of each site j about each transaction of the set `to j`
+unfoldable pub delivered : Message → (ℕ → ℕ) → List Place → List Place
+delivered m to ps = each (λ j p. withChannel p (put m (to j) (p .channel))) ps
 
--- all sites but i; Figure 2: availableNodes \ {i}
+-- those of ts that have their home at j
+unfoldable pub homedAt : List Txn → ℕ → ℕ → ℕ
+homedAt xs ts j = those maxTxns (λ t. has ts t && eqb (txnIn xs t .home) j)
+
+-- all sites but i; Figure 2: availableNodes \ {i}. "Messages sent are counted by the sites in the set they go to": a
+-- multicast sends `size (others s i)` messages.
 abbrev pub others : State → ℕ → ℕ
 others s i = allBut (s .sites) i
 
 -- Figure 2: sendRMulticast, from site i to all other sites, about each transaction of ts
 abbrev pub multicast : Message → ℕ → ℕ → State → State
-multicast m i ts s = delivered m (λ j. cond (has (others s i) j) ts none) s
+multicast m i ts s = withPlaces s (delivered m (λ j. cond (has (others s i) j) ts none) (s .places))
 
 -- Figure 2: sendRUnicast(ready) from site i, about each transaction of ts to its own home
 abbrev pub readyHome : ℕ → ℕ → State → State
-readyHome i ts s = delivered (Ready i) (λ j. those maxTxns (λ t. has ts t && eqb (txnAt s t .home) j)) s
-
--- "Messages sent are counted by the sites in the set they go to": those of one multicast from site i
-abbrev pub multicastCount : State → ℕ → ℕ
-multicastCount s i = size (others s i)
+readyHome i ts s = withPlaces s (delivered (Ready i) (homedAt (s .txns) ts) (s .places))

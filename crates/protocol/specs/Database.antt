@@ -28,23 +28,25 @@ heldWrites x i v = cond (executes v) (x .writes) none
 unfoldable pub held : Txn → ℕ → ℕ → ℕ
 held x i v = union (heldReads x i v) (heldWrites x i v)
 
+-- "another transaction executing at the site holds a write of an object pending for reading, or holds any access to one
+-- pending for writing": y, of status v at site i, is one that the pending operation of x clashes with
+unfoldable pub clashesWith : Txn → Txn → ℕ → ℕ → Bool
+clashesWith x y i v = overlap (heldWrites y i v) (x .pendingreads) || overlap (held y i v) (x .pendingwrites)
+
+-- "executing at the site that hold an object of its write set": y, of status v at site i, is one that x conflicts with
+unfoldable pub conflictsWith : Txn → Txn → ℕ → ℕ → Bool
+conflictsWith x y i v = overlap (held y i v) (x .writes)
+
 -- At site i, with the statuses r, among the n transactions xs of the table:
 module _ (n : ℕ) (xs : List Txn) (i : ℕ) (r : Row) where
-  -- "another transaction executing at the site holds a write of an object pending for reading, or holds any access to
-  -- one pending for writing": u is one that clashes with t
-  unfoldable pub clashes : ℕ → ℕ → Bool
-  clashes t u =
-      not (eqb u t)
-      && (overlap (heldWrites (txnIn xs u) i (statusIn r u)) (txnIn xs t .pendingreads)
-      || overlap (held (txnIn xs u) i (statusIn r u)) (txnIn xs t .pendingwrites))
-
-  -- "a lock clash"
+  -- "a lock clash" of the pending operation of t
   unfoldable pub clash : ℕ → Bool
-  clash t = someBelow n (clashes t)
+  clash t = someBelow n (λ u. not (eqb u t) && clashesWith (txnIn xs t) (txnIn xs u) i (statusIn r u))
 
-  -- "the other transactions executing at the site that hold an object of its write set"; Figure 2: getConflicts(WS)
+  -- the conflicts of t: "the other transactions executing at the site that hold an object of its write set"; Figure 2:
+  -- getConflicts(WS)
   unfoldable pub conflicts : ℕ → ℕ
-  conflicts t = those n (λ u. not (eqb u t) && overlap (held (txnIn xs u) i (statusIn r u)) (txnIn xs t .writes))
+  conflicts t = those n (λ u. not (eqb u t) && conflictsWith (txnIn xs t) (txnIn xs u) i (statusIn r u))
 
 -- "for each pending read of an object in neither set so far, the site's version is noted; then pending sets join the
 -- sets and become empty"

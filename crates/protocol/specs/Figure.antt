@@ -3,10 +3,10 @@
 use Prim.Native.Nat.{ℕ}
 use mathlib.Core.Bool.{Bool, true, false, not, cond, _&&_, _||_}
 use lib.Dec.{eqb}
-use Rattle.sets.specs.Set.{none, isEmpty, with, without}
+use Rattle.sets.specs.Set.{none, isEmpty, with, without, size}
 use Rattle.protocol.specs.State.{idle, start, active, blocked, precommit, committed, aborted, statusAt, atHome, rowAt, placeAt, txnAt, withStatus, withPlace, withTxn, withQueue, withPending, withMissing}
 use Rattle.protocol.specs.Database.{clash, ended, woken, commitHere}
-use Rattle.protocol.specs.Channel.{lies, received, others, multicast, multicastCount}
+use Rattle.protocol.specs.Channel.{lies, received, others, multicast}
 use Rattle.protocol.specs.Scan.{scan}
 use Rattle.protocol.specs.declared.Message.{Message}
 use Rattle.protocol.specs.declared.Message.the-variants.{Remote, Ready, Commit, Abort}
@@ -67,10 +67,10 @@ effect EndOperation s i t =
     (cond (atHome s i t) (withStatus (withTxn s t (ended (txnAt s t) (placeAt s i))) i t active)
     (withStatus s i t precommit))
 effect BeginCommit s i t =
-    sending (multicastCount s i)
+    sending (size (others s i))
     (multicast Remote i (only t) (withTxn (withStatus s i t precommit) t (withMissing (txnAt s t) (others s i))))
 effect EndCommit s i t =
-    sending (multicastCount s i) (multicast Commit i (only t) (commitHere s i t (placeAt s i)))
+    sending (size (others s i)) (multicast Commit i (only t) (commitHere s i t (placeAt s i)))
 effect LocalAbort s i t =
     silent (withPlace (withStatus s i t aborted) i (withQueue (placeAt s i) (placeAt s i .queue) true))
 effect (Receive Remote) s i t =

@@ -12,3 +12,4 @@ pub mod Answer
 pub mod Run
 pub mod Cases
 pub mod Marked
+pub mod Shortcuts

@@ -144,7 +144,7 @@ case6 =
     })
 
 -- "As 6 but t1 active after its write: t1 aborted, no abort message."
-case7 : Case
+unfoldable pub case7 : Case
 case7 =
     of-three (asks 0 ++ (writes 1 ++ reaches 0 1))
     (record {
@@ -157,7 +157,7 @@ case7 =
     })
 
 -- "t1 scanned at site 2 while t0 runs there: waits, though higher": t0 has just been submitted
-case8 : Case
+unfoldable pub case8 : Case
 case8 =
     of-three (asks 0 ++ (reaches 0 2 ++ (asks 1 ++ reaches 1 2)))
     (record {

@@ -1,14 +1,14 @@
 -- 01, "The scan"; Figure 2: the effect of execute_remote.
 use Prim.Native.Nat.{ℕ, zero, suc, _+_, _*_}
-use mathlib.Core.Bool.{Bool, true, false, not, cond, _&&_, _||_}
+use mathlib.Core.Bool.{Bool, false, not, cond, _&&_, _||_}
 use mathlib.Core.List.{List}
 use lib.Dec.{eqb}
-use Rattle.sets.specs.Set.{has, none, isEmpty, with, without, union, those, size}
+use Rattle.sets.specs.Set.{has, none, with, without, union, those, size}
 use Rattle.protocol.specs.Lists.{storeAt, someBelow}
 use Rattle.protocol.specs.State.{blocked, precommit, aborted, statusIn, txnIn, rowAt, placeAt, rowWith, withRow, withPlace, withQueue}
 use Rattle.protocol.specs.Order.{outranks, highest}
 use Rattle.protocol.specs.Database.{conflicts}
-use Rattle.protocol.specs.Channel.{multicast, readyHome, multicastCount}
+use Rattle.protocol.specs.Channel.{others, multicast, readyHome}
 use Rattle.protocol.specs.declared.Message.the-variants.{Abort}
 use Rattle.protocol.specs.declared.Row.{Row}
 use Rattle.protocol.specs.declared.Txn.{Txn}
@@ -16,46 +16,48 @@ use Rattle.protocol.specs.declared.Scan.{Scan}
 use Rattle.protocol.specs.declared.Done.{Done}
 use Rattle.protocol.specs.declared.State.{State}
 
+-- "has its home elsewhere, or is at home in pre_commit with a priority not lower": y, a conflict of x that has status v
+-- at site i, makes x wait; Figure 2: ¬ higher_priority(t, t')
+unfoldable pub makesWait : Txn → Txn → ℕ → ℕ → Bool
+makesWait x y i v = not (eqb (y .home) i) || (eqb v precommit && not (outranks x y))
+
+-- "it waits on and aborts nobody"; Figure 2: insert_with_priority(aux_queue, t)
+unfoldable pub waits : ℕ → Scan → Scan
+waits t c = record {
+  rest = without (c .rest) t;
+  row = c .row;
+  waiting = with (c .waiting) t;
+  aborts = c .aborts;
+  readies = c .readies;
+}
+
+-- those of the set `them` that are in pre_commit, among the n transactions of the table
+unfoldable pub asked : ℕ → Row → ℕ → ℕ
+asked n r them = those n (λ u. has them u && eqb (statusIn r u) precommit)
+
+-- "Otherwise each conflict is aborted (one that was in pre_commit also sends abort to all other sites), ready goes to its
+-- own home, and it is blocked", where `them` is the set of t's conflicts
+unfoldable pub submits : ℕ → ℕ → ℕ → Scan → Scan
+submits n t them c = record {
+  rest = without (c .rest) t;
+  row = rowWith (record { status = storeAt them aborted (c .row .status) }) t blocked;
+  waiting = c .waiting;
+  aborts = union (c .aborts) (asked n (c .row) them);
+  readies = with (c .readies) t;
+}
+
 -- At site i, among the n transactions xs of the table:
 module _ (n : ℕ) (xs : List Txn) (i : ℕ) where
-  -- "has its home elsewhere, or is at home in pre_commit with a priority not lower": u, one of t's conflicts at a site
-  -- with the statuses r, makes t wait; Figure 2: ¬ higher_priority(t, u)
-  unfoldable pub makesWait : Row → ℕ → ℕ → Bool
-  makesWait r t u =
-      not (eqb (txnIn xs u .home) i) || (eqb (statusIn r u) precommit && not (outranks xs t u))
+  -- "If one of them .., it waits", where `them` is the set of t's conflicts and r has the statuses
+  unfoldable pub mustWait : Row → ℕ → ℕ → Bool
+  mustWait r t them = someBelow n (λ u. has them u && makesWait (txnIn xs t) (txnIn xs u) i (statusIn r u))
 
-  -- "If one of them .., it waits"
-  unfoldable pub mustWait : Row → ℕ → Bool
-  mustWait r t = someBelow n (λ u. has (conflicts n xs i r t) u && makesWait r t u)
+  -- what happens to one queued transaction, where `them` is the set of its conflicts
+  unfoldable pub scanWith : ℕ → ℕ → Scan → Scan
+  scanWith t them c = cond (mustWait (c .row) t them) (waits t c) (submits n t them c)
 
-  -- "it waits on and aborts nobody"; Figure 2: insert_with_priority(aux_queue, t)
-  unfoldable pub waits : ℕ → Scan → Scan
-  waits t c = record {
-    rest = without (c .rest) t;
-    row = c .row;
-    waiting = with (c .waiting) t;
-    aborts = c .aborts;
-    readies = c .readies;
-  }
-
-  -- those of t's conflicts that are in pre_commit
-  unfoldable pub asked : Row → ℕ → ℕ
-  asked r t = those n (λ u. has (conflicts n xs i r t) u && eqb (statusIn r u) precommit)
-
-  -- "Otherwise each conflict is aborted (one that was in pre_commit also sends abort to all other sites), ready goes to
-  -- its own home, and it is blocked"
-  unfoldable pub submits : ℕ → Scan → Scan
-  submits t c = record {
-    rest = without (c .rest) t;
-    row = rowWith (record { status = storeAt (conflicts n xs i (c .row) t) aborted (c .row .status) }) t blocked;
-    waiting = c .waiting;
-    aborts = union (c .aborts) (asked (c .row) t);
-    readies = with (c .readies) t;
-  }
-
-  -- what happens to one queued transaction
   unfoldable pub scanOne : ℕ → Scan → Scan
-  scanOne t c = cond (mustWait (c .row) t) (waits t c) (submits t c)
+  scanOne t c = scanWith t (conflicts n xs i (c .row) t) c
 
   -- "The highest priority in the queue is taken first .. then the rest of the queue is taken the same way, seeing what
   -- was just done": k of the queue, one after the other
@@ -80,7 +82,7 @@ scanLeaves s i c = record {
       readyHome i (c .readies)
       (multicast Abort i (c .aborts)
       (withPlace (withRow s i (c .row)) i (withQueue (placeAt s i) (c .waiting) false)));
-  sent = size (c .aborts) * multicastCount s i + size (c .readies);
+  sent = size (c .aborts) * size (others s i) + size (c .readies);
 }
 
 -- "the scan" at site i
