@@ -1,6 +1,6 @@
 -- 01, "Answer numbers", for an event: which number is given when, their order, and what an event returns.
 use Prim.Native.Nat.{ℕ, _-_}
-use mathlib.Core.Bool.{Bool, true, false, not, cond, _&&_, _||_}
+use mathlib.Core.Bool.{Bool, true, not, cond, _&&_, _||_}
 use mathlib.Core.List.{List, [], _∷_}
 use lib.Dec.{eqb, ltb, leb}
 use lib.ListN.{getD}
@@ -17,11 +17,11 @@ use Rattle.protocol.specs.declared.Event.{Event}
 use Rattle.protocol.specs.declared.State.{State}
 use Rattle.protocol.specs.declared.Stepped.{Stepped}
 
--- "1 remote, 2 ready (with the site it came from), 3 commit, 4 abort"
+-- "1 remote, 2 ready (with the site it came from), 3 commit, 4 abort"; check 5 refuses any other kind
 unfoldable pub messageOf : ℕ → ℕ → Message
 messageOf kind from = getD (Remote ∷ Ready from ∷ Commit ∷ Abort ∷ []) (kind - 1) Remote
 
--- the actions by their numbers, 1 to 12, with what the event's fields give them
+-- the actions by their numbers, 1 to 12, with what the event's fields give them; check 2 refuses any other number
 unfoldable pub actionOf : Event → Action
 actionOf e =
     getD
@@ -75,42 +75,54 @@ unfoldable pub illFilled : State → Event → Bool
 illFilled s e = illKind e || (illFrom s e || (illReads e || (illWrites e || illTransaction e)))
 
 -- "A fixed table gives each action's required home: 1, 2, 4, 5, 6, 8 at home; 7, 9, 10 away from home; 3, 11, 12 either"
-abbrev pub either : ℕ
-either = 0
+abbrev pub anywhere : ℕ
+anywhere = 0
 
-abbrev pub home : ℕ
-home = 1
+abbrev pub homeOnly : ℕ
+homeOnly = 1
 
-abbrev pub elsewhere : ℕ
-elsewhere = 2
+abbrev pub awayOnly : ℕ
+awayOnly = 2
 
 abbrev pub homeTable : List ℕ
 homeTable =
-    home ∷ home ∷ either ∷ home ∷ home ∷ home ∷ elsewhere ∷ home ∷ elsewhere ∷ elsewhere ∷ either ∷ either ∷ []
+    homeOnly
+    ∷ homeOnly
+    ∷ anywhere
+    ∷ homeOnly
+    ∷ homeOnly
+    ∷ homeOnly
+    ∷ awayOnly
+    ∷ homeOnly
+    ∷ awayOnly
+    ∷ awayOnly
+    ∷ anywhere
+    ∷ anywhere
+    ∷ []
 
 -- the required home h is met, where b says whether the site is the transaction's home
 unfoldable pub homeMet : ℕ → Bool → Bool
-homeMet h b = eqb h either || (eqb h home && b || eqb h elsewhere && not b)
+homeMet h b = eqb h anywhere || (eqb h homeOnly && b || eqb h awayOnly && not b)
 
 -- 6: "wrong home"
 unfoldable pub wrongHome : State → Event → Bool
-wrongHome s e = not (homeMet (getD homeTable (e .action - 1) either) (atHome s (e .site) (e .txn)))
+wrongHome s e = not (homeMet (getD homeTable (e .action - 1) anywhere) (atHome s (e .site) (e .txn)))
 
 -- the statuses in which each action is enabled, from the table of actions; action 11 asks for none
 abbrev pub statusTable : List (ℕ → Bool)
 statusTable =
-    eqb start
-    ∷ eqb active
-    ∷ eqb blocked
-    ∷ eqb active
-    ∷ eqb precommit
-    ∷ eqb blocked
-    ∷ eqb idle
-    ∷ eqb precommit
-    ∷ eqb precommit
+    (λ v. eqb v start)
+    ∷ (λ v. eqb v active)
+    ∷ (λ v. eqb v blocked)
+    ∷ (λ v. eqb v active)
+    ∷ (λ v. eqb v precommit)
+    ∷ (λ v. eqb v blocked)
+    ∷ (λ v. eqb v idle)
+    ∷ (λ v. eqb v precommit)
+    ∷ (λ v. eqb v precommit)
     ∷ (λ v. not (eqb v committed || eqb v aborted))
     ∷ (λ v. true)
-    ∷ eqb aborted
+    ∷ (λ v. eqb v aborted)
     ∷ []
 
 -- 7: "wrong status"
@@ -147,11 +159,10 @@ lockClash s e = eqb (e .action) 3 && (atHome s (e .site) (e .txn) && clashAt s (
 unfoldable pub noScan : State → Event → Bool
 noScan s e = eqb (e .action) 11 && (isEmpty (placeAt s (e .site) .queue) || not (placeAt s (e .site) .remove))
 
--- the numbers of an event, in the order of the table
-unfoldable pub checks : State → Event → List Check
-checks s e =
-    given 1 (not (inRange s))
-    ∷ given 2 (noAction e)
+-- the numbers of an event in a state in range, in the order of the table
+unfoldable pub checksInRange : State → Event → List Check
+checksInRange s e =
+    given 2 (noAction e)
     ∷ given 3 (noSite s e)
     ∷ given 4 (noTransaction s e)
     ∷ given 5 (illFilled s e)
@@ -162,6 +173,10 @@ checks s e =
     ∷ given 10 (lockClash s e)
     ∷ given 11 (noScan s e)
     ∷ []
+
+-- the numbers of an event, in the order of the table
+unfoldable pub checks : State → Event → List Check
+checks s e = given 1 (not (inRange s)) ∷ checksInRange s e
 
 -- 0 where the event is done, else the first number that applies
 unfoldable pub answer : State → Event → ℕ

@@ -12,11 +12,11 @@ use Rattle.protocol.specs.Setup.{setup, setupAnswer, setupChecks, sitesF
 use Rattle.protocol.specs.Range.{within, tableFine, txnFine, statusesFine, channelFine, versionsFine, queueFine, logFine, siteFine, inRange}
 use Rattle.protocol.specs.Order.{outranks, higherOf, highestBelow}
 use Rattle.protocol.specs.Database.{executes, heldReads, heldWrites, held, clashesWith, conflictsWith, clash, conflicts, noted, ended, woken, appended, stored, commitHere}
-use Rattle.protocol.specs.Channel.{lies, taken, put, delivered, homedAt}
+use Rattle.protocol.specs.Channel.{lies, taken, readyWith, put, delivered, homedAt}
 use Rattle.protocol.specs.Scan.{makesWait, mustWait, waits, asked, submits, scanWith, scanOne, scanMany, scanLeaves, scan}
-use Rattle.protocol.specs.Figure.{enabled, effect}
-use Rattle.protocol.specs.Answer.{messageOf, actionOf, noAction, noSite, noTransaction, illKind, illFrom, illReads, illWrites, illTransaction, illFilled, homeMet, wrongHome, wrongStatus, wrongMissing, messageThere, noMessage, lockClash, noScan, checks, answer, done, step}
-use Rattle.protocol.specs.Run.{stateAfter, answersOf, sentBy, runChecks, runAnswer, run}
+use Rattle.protocol.specs.Figure.{effect}
+use Rattle.protocol.specs.Answer.{messageOf, actionOf, noAction, noSite, noTransaction, illKind, illFrom, illReads, illWrites, illTransaction, illFilled, homeMet, wrongHome, wrongStatus, wrongMissing, messageThere, noMessage, lockClash, noScan, checksInRange, checks, answer, done, step}
+use Rattle.protocol.specs.Run.{stateAfter, answersOf, sentBy}
 use Rattle.protocol.specs.declared.Message.{Message}
 use Rattle.protocol.specs.declared.Message.the-variants.{Remote, Ready, Commit, Abort}
 use Rattle.protocol.specs.declared.Entry.{Entry}
@@ -124,7 +124,15 @@ shown s answers sent = record {
 
 -- what comes out of a case by the definitions, all of which it opens
 unfoldable pub outcomeOf : Case → Outcome
-unfolding shown onesIn has isEmpty withIn union minus without overlap firstIn allButIn sizeIn those eachFrom tableFrom allBelow someBelow allOf times emptyState firstOf setup setupAnswer setupChecks sitesFine countFine homesFine prioritiesDiffer freshState freshRow freshTxn within tableFine txnFine statusesFine channelFine versionsFine queueFine logFine siteFine inRange outranks higherOf highestBelow executes heldReads heldWrites held clashesWith conflictsWith clash conflicts noted ended woken appended stored commitHere lies taken put delivered homedAt makesWait mustWait waits asked submits scanWith scanOne scanMany scanLeaves scan effect messageOf actionOf noAction noSite noTransaction illKind illFrom illReads illWrites illTransaction illFilled homeMet wrongHome wrongStatus wrongMissing messageThere noMessage lockClash noScan checks answer done step stateAfter answersOf sentBy
+unfolding shown onesIn has isEmpty withIn union minus without overlap firstIn allButIn sizeIn those eachFrom
+    tableFrom allBelow someBelow allOf times emptyState firstOf setup setupAnswer setupChecks sitesFine countFine
+    homesFine prioritiesDiffer freshState freshRow freshTxn within tableFine txnFine statusesFine channelFine
+    versionsFine queueFine logFine siteFine inRange outranks higherOf highestBelow executes heldReads heldWrites
+    held clashesWith conflictsWith clash conflicts noted ended woken appended stored commitHere lies taken readyWith
+    put delivered homedAt makesWait mustWait waits asked submits scanWith scanOne scanMany scanLeaves scan effect
+    messageOf actionOf noAction noSite noTransaction illKind illFrom illReads illWrites illTransaction illFilled
+    homeMet wrongHome wrongStatus wrongMissing messageThere noMessage lockClash noScan checksInRange checks answer
+    done step stateAfter answersOf sentBy
 outcomeOf c =
     let s : State = setup (c .sites) (c .entries) .state in
     shown (stateAfter s (c .events)) (answersOf s (c .events)) (sentBy s (c .events))

@@ -34,12 +34,16 @@ taken Abort t c = record { remote = c .remote; ready = c .ready; commit = c .com
 abbrev pub received : Message → ℕ → Place → Place
 received m t p = withChannel p (taken m t (p .channel))
 
+-- a ready from site k about each transaction of the set ts
+unfoldable pub readyWith : List ℕ → ℕ → ℕ → List ℕ
+readyWith ready ts k = each (λ t from. cond (has ts t) (with from k) from) ready
+
 -- the channel with the message about each transaction of the set ts
 unfoldable pub put : Message → ℕ → Channel → Channel
 put Remote ts c = record { remote = union (c .remote) ts; ready = c .ready; commit = c .commit; abort = c .abort }
 put (Ready k) ts c = record {
   remote = c .remote;
-  ready = each (λ t ks. cond (has ts t) (with ks k) ks) (c .ready);
+  ready = readyWith (c .ready) ts k;
   commit = c .commit;
   abort = c .abort;
 }

@@ -1,6 +1,6 @@
 -- 01, "Answer numbers": "Checks run in the order of the table", and the first number that applies is the answer.
 use Prim.Native.Nat.{ℕ}
-use mathlib.Core.Bool.{Bool, true, false, cond}
+use mathlib.Core.Bool.{Bool, cond}
 use mathlib.Core.List.{List, [], _∷_}
 
 -- a line of the table: the number, and whether it applies

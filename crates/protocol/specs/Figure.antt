@@ -1,7 +1,7 @@
 -- Figure 2 over the database of 01: when each of the twelve actions is enabled (pre), and what it then does (eff), in
 -- the order of 01's table of actions.
 use Prim.Native.Nat.{ℕ}
-use mathlib.Core.Bool.{Bool, true, false, not, cond, _&&_, _||_}
+use mathlib.Core.Bool.{Bool, true, not, cond, _&&_, _||_}
 use lib.Dec.{eqb}
 use Rattle.sets.specs.Set.{none, isEmpty, with, without, size}
 use Rattle.protocol.specs.State.{idle, start, active, blocked, precommit, committed, aborted, statusAt, atHome, rowAt, placeAt, txnAt, withStatus, withPlace, withTxn, withQueue, withPending, withMissing}

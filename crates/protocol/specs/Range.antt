@@ -1,10 +1,10 @@
 -- 01, "A state is in range when", clause by clause.
 use Prim.Native.Nat.{ℕ, _+_}
-use mathlib.Core.Bool.{Bool, true, false, not, cond, _&&_, _||_}
+use mathlib.Core.Bool.{Bool, not, cond, _&&_, _||_}
 use mathlib.Core.List.{List}
 use lib.Dec.{eqb, ltb, leb}
 use lib.ListN.{getD}
-use Rattle.sets.specs.Set.{has, isEmpty, minus, first, none}
+use Rattle.sets.specs.Set.{has, isEmpty, minus, first}
 use Rattle.protocol.specs.Lists.{allBelow, allOf, times}
 use Rattle.protocol.specs.State.{maxTxns, objects, idle, committed, aborted, rowAt, placeAt, txnAt, txnIn, statusIn, logOf, versionIn, readyIn}
 use Rattle.protocol.specs.Setup.{sitesFine, countFine, homesFine, prioritiesDiffer}
@@ -34,7 +34,8 @@ txnFine sites n x = within sites (x .missing) && allBelow objects (λ o. leb (ge
 unfoldable pub statusesFine : ℕ → Row → Bool
 statusesFine n r = allBelow n (λ t. leb (statusIn r t) aborted)
 
--- "senders of messages name only sites, .. messages only transactions of the table"
+-- "senders of messages name only sites, .. messages only transactions of the table": a ready about a transaction beyond
+-- the table is refused like the other three kinds
 unfoldable pub channelFine : ℕ → ℕ → Channel → Bool
 channelFine sites n c =
     within n (c .remote)

@@ -1,6 +1,6 @@
 -- 01, "A run": its refusals, one answer an event, the sum of the messages and the last state.
 use Prim.Native.Nat.{ℕ, _+_}
-use mathlib.Core.Bool.{Bool, true, false, not, cond}
+use mathlib.Core.Bool.{not, cond}
 use mathlib.Core.List.{List, [], _∷_, _++_}
 use lib.Dec.{eqb, ltb}
 use lib.ListN.{length, drop}
@@ -10,11 +10,10 @@ use Rattle.protocol.specs.Range.{inRange}
 use Rattle.protocol.specs.Answer.{step}
 use Rattle.protocol.specs.declared.Event.{Event}
 use Rattle.protocol.specs.declared.State.{State}
-use Rattle.protocol.specs.declared.Stepped.{Stepped}
 use Rattle.protocol.specs.declared.Ran.{Ran}
 
 -- "An event has seven fields: action, site, transaction, kind, from, reads, writes": a list of numbers as events, seven
--- numbers an event; a tail of fewer than seven is no event
+-- numbers an event. A tail of fewer than seven is no event; that is our reading.
 unfoldable pub eventsOf : List ℕ → List Event
 eventsOf [] = []
 eventsOf (a ∷ []) = []

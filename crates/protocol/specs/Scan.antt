@@ -17,7 +17,7 @@ use Rattle.protocol.specs.declared.Done.{Done}
 use Rattle.protocol.specs.declared.State.{State}
 
 -- "has its home elsewhere, or is at home in pre_commit with a priority not lower": y, a conflict of x that has status v
--- at site i, makes x wait; Figure 2: ¬ higher_priority(t, t')
+-- at site i, makes x wait; Figure 2: ¬ higher_priority(t, t'). Past the first test y is at home.
 unfoldable pub makesWait : Txn → Txn → ℕ → ℕ → Bool
 makesWait x y i v = not (eqb (y .home) i) || (eqb v precommit && not (outranks x y))
 

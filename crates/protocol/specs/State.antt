@@ -1,7 +1,7 @@
 -- 01, "The state": the numbers that stand for a status, what a state holds of a site and of a transaction, and the
 -- state with one part of it changed. What is not named stays as it is.
 use Prim.Native.Nat.{ℕ}
-use mathlib.Core.Bool.{Bool, true, false}
+use mathlib.Core.Bool.{Bool, false}
 use mathlib.Core.List.{List, []}
 use lib.Dec.{eqb}
 use lib.ListN.{getD, set, take, replicate}
