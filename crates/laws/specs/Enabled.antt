@@ -15,7 +15,7 @@ use Rattle.protocol.specs.Check.{Check, given, firstOf}
 use Rattle.protocol.specs.Setup.{sitesFine, setupChecks, setupAnswer}
 use Rattle.protocol.specs.Range.{tableFine, inRange}
 use Rattle.protocol.specs.Figure.{enabled}
-use Rattle.protocol.specs.Answer.{actionOf, noAction, noSite, noTransaction, illFilled, homeMet, wrongHome, wrongStatus, wrongMissing, messageThere, noMessage, lockClash, noScan, checks, answer, refused, done, step}
+use Rattle.protocol.specs.Answer.{actionOf, noAction, noSite, noTransaction, illFilled, homeMet, wrongHome, wrongStatus, wrongMissing, messageThere, noMessage, lockClash, noScan, checksInRange, checks, answer, refused, done, step}
 use Rattle.protocol.specs.Run.{stateAfter, answersOf, sentBy, runChecks, runAnswer, run, answersAfter}
 use Rattle.protocol.specs.declared.Entry.{Entry}
 use Rattle.protocol.specs.declared.Event.{Event}
@@ -115,7 +115,7 @@ first-decides l d k =
 
 -- "given exactly when .. Checks run in the order of the table": the answer of an event, 1 to 11 or 0
 pub checked-in-order : (s : State) (e : Event) → Decides (checks s e) (answer s e)
-unfolding answer checks distinct fresh
+unfolding answer checks checksInRange distinct fresh
 checked-in-order s e = first-decides (checks s e) refl
 
 -- "A run checks 31, then 32, then the state once (answer 1)": the answer of a run
@@ -160,12 +160,10 @@ module _ (s : State) (e : Event) where
 
   -- the two are one test for the actions 1 to 12, all of which are computed at once
   twelve : table 12 (λ k. checked (suc k)) ≡ table 12 (λ k. figured (suc k))
-  unfolding allowed checks noneApplies wrongHome homeMet wrongStatus wrongMissing noMessage messageThere lockClash
+  unfolding allowed checks checksInRange noneApplies wrongHome homeMet wrongStatus wrongMissing noMessage messageThere lockClash
       noScan actionOf enabled tableFrom
   twelve =
-      let v : ℕ = statusAt s (e .site) (e .txn) in
-      let turned : (n : ℕ) → eqb n v ≡ eqb v n = λ n. eqb-sym n v in
-      simp (Bool·not-not, not-or, or-false, and-true, turned)
+      simp (Bool·not-not, not-or, or-false, and-true)
 
   one-of-twelve : (k : ℕ) → k < 12 → checked (suc k) ≡ figured (suc k)
   one-of-twelve k l =
@@ -205,7 +203,7 @@ all-three a b c = (apart, λ p. both a (b && c) (p .0) (both b c (p .1) (p .2)))
 pub done-exactly : (s : State) (e : Event)
     → (answer s e ≡ 0)
     ↔ ((inRange s ≡ true) × (wellFormed s e ≡ true) × (enabled (actionOf e) s (e .site) (e .txn) ≡ true))
-unfolding answer checks noneApplies allowed wellFormed distinct fresh
+unfolding answer checks checksInRange noneApplies allowed wellFormed distinct fresh
 done-exactly s e =
     let on : Bool = enabled (actionOf e) s (e .site) (e .txn) in
     Iff·trans

@@ -19,39 +19,36 @@ use Rattle.laws.specs.Lists.{below-suc}
 
 -- ---- the order
 
-module _ (xs : List Txn) where
-  -- nobody outranks itself
-  pub outranks-irreflexive : (t : ℕ) → outranks xs t t ≡ false
-  unfolding outranks
-  outranks-irreflexive t = le-ltb (txnIn xs t .priority) (txnIn xs t .priority) (omega arith)
+-- nobody outranks itself
+pub outranks-irreflexive : (x : Txn) → outranks x x ≡ false
+unfolding outranks
+outranks-irreflexive x = le-ltb (x .priority) (x .priority) (omega arith)
 
-  -- one who outranks another outranks all whom the other outranks
-  pub outranks-transitive : (t u v : ℕ) → outranks xs t u ≡ true → outranks xs u v ≡ true → outranks xs t v ≡ true
-  unfolding outranks
-  outranks-transitive t u v p q =
-      lt-ltb (txnIn xs v .priority) (txnIn xs t .priority) (omega (arith, ltb-true))
+-- one who outranks another outranks all whom the other outranks
+pub outranks-transitive : (x y z : Txn) → outranks x y ≡ true → outranks y z ≡ true → outranks x z ≡ true
+unfolding outranks
+outranks-transitive x y z p q = lt-ltb (z .priority) (x .priority) (omega (arith, ltb-true))
 
-  -- of two whose priorities differ, one outranks the other
-  pub outranks-total : (t u : ℕ) → (txnIn xs t .priority ≡ txnIn xs u .priority → ⊥)
-      → (outranks xs t u ≡ true) ⊎ (outranks xs u t ≡ true)
-  unfolding outranks
-  outranks-total t u n = go (test (ltb (txnIn xs u .priority) (txnIn xs t .priority)))
-    where
-      go : Test (ltb (txnIn xs u .priority) (txnIn xs t .priority)) → (outranks xs t u ≡ true) ⊎ (outranks xs u t ≡ true)
-      go (yes-so h) = inl h
-      go (not-so h) = inr (lt-ltb (txnIn xs t .priority) (txnIn xs u .priority) (omega (arith, ltb-false)))
+-- of two whose priorities differ, one outranks the other
+pub outranks-total : (x y : Txn) → (x .priority ≡ y .priority → ⊥) → (outranks x y ≡ true) ⊎ (outranks y x ≡ true)
+unfolding outranks
+outranks-total x y n = go (test (ltb (y .priority) (x .priority)))
+  where
+    go : Test (ltb (y .priority) (x .priority)) → (outranks x y ≡ true) ⊎ (outranks y x ≡ true)
+    go (yes-so h) = inl h
+    go (not-so h) = inr (lt-ltb (x .priority) (y .priority) (omega (arith, ltb-false)))
 
-  -- whoever does not outrank u does not outrank one who does
-  pub outranks-behind : (t u v : ℕ) → outranks xs t u ≡ true → outranks xs v u ≡ false → outranks xs v t ≡ false
-  outranks-behind t u v p n = go (test (outranks xs v t))
-    where
-      go : Test (outranks xs v t) → outranks xs v t ≡ false
-      go (yes-so q) = absurd (false≢true (sym n ∙ outranks-transitive v t u q p))
-      go (not-so q) = q
+-- whoever does not outrank y does not outrank one who does
+pub outranks-behind : (x y z : Txn) → outranks x y ≡ true → outranks z y ≡ false → outranks z x ≡ false
+outranks-behind x y z p n = go (test (outranks z x))
+  where
+    go : Test (outranks z x) → outranks z x ≡ false
+    go (yes-so q) = absurd (false≢true (sym n ∙ outranks-transitive z x y q p))
+    go (not-so q) = q
 
-  -- no two outrank each other
-  pub outranks-asymmetric : (t u : ℕ) → outranks xs t u ≡ true → outranks xs u t ≡ false
-  outranks-asymmetric t u p = outranks-behind t u u p (outranks-irreflexive u)
+-- no two outrank each other
+pub outranks-asymmetric : (x y : Txn) → outranks x y ≡ true → outranks y x ≡ false
+outranks-asymmetric x y p = outranks-behind x y y p (outranks-irreflexive y)
 
 -- ---- the highest of a queue
 
@@ -63,7 +60,7 @@ module _ (xs : List Txn) (q : ℕ) where
   -- r stands for nobody, and there is none in q below n; or it is one of them, whom no other of them outranks
   data Top (n r : ℕ) : Type 0 where
     nobody : r ≡ maxTxns → ((k : ℕ) → k < n → has q k ≡ false) → Top n r
-    somebody : r < n → has q r ≡ true → ((k : ℕ) → k < n → has q k ≡ true → outranks xs k r ≡ false) → Top n r
+    somebody : r < n → has q r ≡ true → ((k : ℕ) → k < n → has q k ≡ true → outranks (txnIn xs k) (txnIn xs r) ≡ false) → Top n r
 
   -- n is not in q
   passed : (n r : ℕ) → has q n ≡ false → Top n r → Top (suc n) r
@@ -71,28 +68,28 @@ module _ (xs : List Txn) (q : ℕ) where
   passed n r h (somebody l i f) = somebody (omega arith) i (up-to n (λ p. absurd (false≢true (sym h ∙ p))) f)
 
   -- n is in q
-  joined : (n r : ℕ) → n < maxTxns → has q n ≡ true → Top n r → Top (suc n) (cond (eqb r maxTxns || outranks xs n r) n r)
+  joined : (n r : ℕ) → n < maxTxns → has q n ≡ true → Top n r → Top (suc n) (cond (eqb r maxTxns || outranks (txnIn xs n) (txnIn xs r)) n r)
   joined n r l h (nobody z f) =
       rw (eq-eqb r maxTxns z)
       (somebody (omega arith) h
-      (up-to n (λ p. outranks-irreflexive xs n) (λ k m p. absurd (false≢true (sym (f k m) ∙ p)))))
-  joined n r l h (somebody m i f) = rw (ne-eqb r maxTxns (λ z. omega arith)) (go (test (outranks xs n r)))
+      (up-to n (λ p. outranks-irreflexive (txnIn xs n)) (λ k m p. absurd (false≢true (sym (f k m) ∙ p)))))
+  joined n r l h (somebody m i f) = rw (ne-eqb r maxTxns (λ z. omega arith)) (go (test (outranks (txnIn xs n) (txnIn xs r))))
     where
-      go : Test (outranks xs n r) → Top (suc n) (cond (outranks xs n r) n r)
+      go : Test (outranks (txnIn xs n) (txnIn xs r)) → Top (suc n) (cond (outranks (txnIn xs n) (txnIn xs r)) n r)
       go (yes-so o) =
           rw o (somebody (omega arith) h
-          (up-to n (λ p. outranks-irreflexive xs n) (λ k b p. outranks-behind xs n r k o (f k b p))))
+          (up-to n (λ p. outranks-irreflexive (txnIn xs n)) (λ k b p. outranks-behind (txnIn xs n) (txnIn xs r) (txnIn xs k) o (f k b p))))
       go (not-so o) = rw o (somebody (omega arith) i (up-to n (λ p. o) f))
 
   -- the loop that finds the highest, after n of its turns
-  top-below : (n : ℕ) → n ≤ maxTxns → Top n (highestBelow xs n q)
+  top-below : (n : ℕ) → n ≤ maxTxns → Top n (highestBelow n xs q)
   unfolding highestBelow higherOf
   top-below zero l = nobody refl (λ k m. absurd (not-suc-le-zero m))
   top-below (suc n) l = go (test (has q n)) (top-below n (omega arith))
     where
-      go : Test (has q n) → Top n (highestBelow xs n q) → Top (suc n) (higherOf xs q (highestBelow xs n q) n)
-      go (yes-so h) t = rw h (joined n (highestBelow xs n q) l h t)
-      go (not-so h) t = rw h (passed n (highestBelow xs n q) h t)
+      go : Test (has q n) → Top n (highestBelow n xs q) → Top (suc n) (higherOf xs q (highestBelow n xs q) n)
+      go (yes-so h) t = rw h (joined n (highestBelow n xs q) l h t)
+      go (not-so h) t = rw h (passed n (highestBelow n xs q) h t)
 
   top : Top maxTxns (highest xs q)
   top = top-below maxTxns (le-refl maxTxns)
@@ -107,22 +104,22 @@ module _ (xs : List Txn) (q : ℕ) where
 
   -- what a member t of the queue knows of the one taken
   taken : (t : ℕ) → t < maxTxns → has q t ≡ true
-      → (highest xs q < maxTxns) × (has q (highest xs q) ≡ true) × (outranks xs t (highest xs q) ≡ false)
+      → (highest xs q < maxTxns) × (has q (highest xs q) ≡ true) × (outranks (txnIn xs t) (txnIn xs (highest xs q)) ≡ false)
   taken t l h = go top
     where
-      go : {r : ℕ} → Top maxTxns r → (r < maxTxns) × (has q r ≡ true) × (outranks xs t r ≡ false)
+      go : {r : ℕ} → Top maxTxns r → (r < maxTxns) × (has q r ≡ true) × (outranks (txnIn xs t) (txnIn xs r) ≡ false)
       go (nobody z f) = absurd (false≢true (sym (f t l) ∙ h))
       go (somebody m i f) = (m, i, f t l h)
 
   -- nobody in the queue outranks the one taken
-  pub highest-top : (t : ℕ) → t < maxTxns → has q t ≡ true → outranks xs t (highest xs q) ≡ false
+  pub highest-top : (t : ℕ) → t < maxTxns → has q t ≡ true → outranks (txnIn xs t) (txnIn xs (highest xs q)) ≡ false
   highest-top t l h = taken t l h .2
 
   -- where no two in the queue have one priority, the one taken outranks all others
   pub highest-first : ((t u : ℕ) → t < maxTxns → u < maxTxns → has q t ≡ true → has q u ≡ true → (t ≡ u → ⊥)
       → txnIn xs t .priority ≡ txnIn xs u .priority → ⊥)
-      → (t : ℕ) → t < maxTxns → has q t ≡ true → (t ≡ highest xs q → ⊥) → outranks xs (highest xs q) t ≡ true
+      → (t : ℕ) → t < maxTxns → has q t ≡ true → (t ≡ highest xs q → ⊥) → outranks (txnIn xs (highest xs q)) (txnIn xs t) ≡ true
   highest-first d t l h n =
       let k = taken t l h in
       ⊎-elim (λ p. absurd (false≢true (sym (k .2) ∙ p))) (λ p. p)
-      (outranks-total xs t (highest xs q) (d t (highest xs q) l (k .0) h (k .1) n))
+      (outranks-total (txnIn xs t) (txnIn xs (highest xs q)) (d t (highest xs q) l (k .0) h (k .1) n))

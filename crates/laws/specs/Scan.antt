@@ -15,7 +15,7 @@ use Rattle.protocol.specs.Lists.{storeAt}
 use Rattle.protocol.specs.State.{maxTxns, idle, blocked, precommit, aborted, statusIn, txnIn}
 use Rattle.protocol.specs.Order.{outranks, highest}
 use Rattle.protocol.specs.Database.{conflicts}
-use Rattle.protocol.specs.Scan.{makesWait, mustWait, waits, asked, submits, scanOne, scanMany, scanAll}
+use Rattle.protocol.specs.Scan.{makesWait, mustWait, waits, asked, submits, scanWith, scanOne, scanMany, scanAll}
 use Rattle.protocol.specs.declared.Row.{Row}
 use Rattle.protocol.specs.declared.Txn.{Txn}
 use Rattle.protocol.specs.declared.Scan.{Scan}
@@ -56,16 +56,20 @@ Had c u v d = RowShaped (d .row) × (statusIn (d .row) u ≡ v → statusIn (c .
 
 -- At site i, among the n transactions xs of the table:
 module _ (n : ℕ) (xs : List Txn) (i : ℕ) where
+  -- the conflicts of t at a site with the statuses r
+  abbrev them : Row → ℕ → ℕ
+  them r t = conflicts n xs i r t
+
   -- ---- one turn
 
   -- the one that is taken waits or is submitted
   pub scan-one : (P : Scan → Type 0) (c : Scan) (t : ℕ)
-      → (mustWait n xs i (c .row) t ≡ true → P (waits n xs i t c))
-      → (mustWait n xs i (c .row) t ≡ false → P (submits n xs i t c)) → P (scanOne n xs i t c)
-  unfolding scanOne
-  scan-one P c t f g = go (test (mustWait n xs i (c .row) t))
+      → (mustWait n xs i (c .row) t (them (c .row) t) ≡ true → P (waits t c))
+      → (mustWait n xs i (c .row) t (them (c .row) t) ≡ false → P (submits n t (them (c .row) t) c)) → P (scanOne n xs i t c)
+  unfolding scanOne scanWith
+  scan-one P c t f g = go (test (mustWait n xs i (c .row) t (them (c .row) t)))
     where
-      go : Test (mustWait n xs i (c .row) t) → P (scanOne n xs i t c)
+      go : Test (mustWait n xs i (c .row) t (them (c .row) t)) → P (scanOne n xs i t c)
       go (yes-so h) = rw h (f h)
       go (not-so h) = rw h (g h)
 
@@ -163,28 +167,28 @@ module _ (n : ℕ) (xs : List Txn) (i : ℕ) where
   scan-shaped = scan-keeps (λ d. RowShaped (d .row)) (λ c t l h. shaped c t)
 
   -- a conflict is one of the table
-  conflict-below : (r : Row) (t u : ℕ) → has (conflicts n xs i r t) u ≡ true → u < n
+  conflict-below : (r : Row) (t u : ℕ) → has (them r t) u ≡ true → u < n
   unfolding conflicts
   conflict-below r t u h = ltb-true u n (both-left (ltb u n) _ (rw has-those at h))
 
   -- where t does not wait, each of its conflicts has its home here, and t outranks each that is in pre_commit
-  pub scan-conflict : (r : Row) (t u : ℕ) → mustWait n xs i r t ≡ false → has (conflicts n xs i r t) u ≡ true
-      → (txnIn xs u .home ≡ i) × (statusIn r u ≡ precommit → outranks xs t u ≡ true)
+  pub scan-conflict : (r : Row) (t u : ℕ) → mustWait n xs i r t (them r t) ≡ false → has (them r t) u ≡ true
+      → (txnIn xs u .home ≡ i) × (statusIn r u ≡ precommit → outranks (txnIn xs t) (txnIn xs u) ≡ true)
   unfolding mustWait makesWait
   scan-conflict r t u m h =
       let home : Bool = eqb (txnIn xs u .home) i in
-      let tied : Bool = eqb (statusIn r u) precommit && not (outranks xs t u) in
+      let tied : Bool = eqb (statusIn r u) precommit && not (outranks (txnIn xs t) (txnIn xs u)) in
       let no : (not home || tied) ≡ false =
-      rw h at (some-none n (λ v. has (conflicts n xs i r t) v && makesWait n xs i r t v) u m (conflict-below r t u h)) in (
+      rw h at (some-none n (λ v. has (them r t) v && makesWait (txnIn xs t) (txnIn xs v) i (statusIn r v)) u m (conflict-below r t u h)) in (
         eqb-true (txnIn xs u .home) i (not-false home (either-left (not home) tied no)),
-        λ p. not-false (outranks xs t u) (rw (eq-eqb (statusIn r u) precommit p) at (either-right (not home) tied no)),
+        λ p. not-false (outranks (txnIn xs t) (txnIn xs u)) (rw (eq-eqb (statusIn r u) precommit p) at (either-right (not home) tied no)),
       )
 
   -- what a turn in which t is taken makes of the status of u: it stays; or u is a conflict, "each conflict is aborted",
   -- and its home is here; or u is t, "and it is blocked"
   pub data After (c : Scan) (t u v : ℕ) : Type 0 where
     stays : v ≡ statusIn (c .row) u → After c t u v
-    falls : has (conflicts n xs i (c .row) t) u ≡ true → txnIn xs u .home ≡ i → v ≡ aborted → After c t u v
+    falls : has (them (c .row) t) u ≡ true → txnIn xs u .home ≡ i → v ≡ aborted → After c t u v
     enters : u ≡ t → v ≡ blocked → After c t u v
 
   pub scan-status : (c : Scan) (t u : ℕ) → t < maxTxns → u < maxTxns → RowShaped (c .row)
@@ -195,18 +199,18 @@ module _ (n : ℕ) (xs : List Txn) (i : ℕ) where
       (λ m. set-to m (stored kills t u blocked idle (simp length-each (omega (arith, s .status)))))
     where
       kills : List ℕ
-      kills = storeAt (conflicts n xs i (c .row) t) aborted (c .row .status)
+      kills = storeAt (them (c .row) t) aborted (c .row .status)
 
-      hit : mustWait n xs i (c .row) t ≡ false → Test (has (conflicts n xs i (c .row) t) u)
-          → After c t u (cond (has (conflicts n xs i (c .row) t) u) aborted (statusIn (c .row) u))
+      hit : mustWait n xs i (c .row) t (them (c .row) t) ≡ false → Test (has (them (c .row) t) u)
+          → After c t u (cond (has (them (c .row) t) u) aborted (statusIn (c .row) u))
       hit m (yes-so h) = falls h (scan-conflict (c .row) t u m h .0) (rw h)
       hit m (not-so h) = stays (rw h)
 
-      set-to : mustWait n xs i (c .row) t ≡ false → Stored kills t u blocked idle → After c t u (getD (set kills t blocked) u idle)
+      set-to : mustWait n xs i (c .row) t (them (c .row) t) ≡ false → Stored kills t u blocked idle → After c t u (getD (set kills t blocked) u idle)
       set-to m (here e g) = enters e g
       set-to m (there e g) =
           let b : u < length (c .row .status) = omega arith in
-          rw (g, getD-each) (hit m (test (has (conflicts n xs i (c .row) t) u)))
+          rw (g, getD-each) (hit m (test (has (them (c .row) t) u)))
 
   had-before : (c : Scan) (u v : ℕ) → u < maxTxns → (v ≡ blocked → ⊥) → (v ≡ aborted → txnIn xs u .home ≡ i → ⊥)
       → Lasts (Had c u v)
@@ -232,17 +236,17 @@ module _ (n : ℕ) (xs : List Txn) (i : ℕ) where
   -- ---- the messages
 
   -- "it waits on and aborts nobody", and it sends nothing
-  pub scan-waits-alone : (c : Scan) (t : ℕ) → mustWait n xs i (c .row) t ≡ true
+  pub scan-waits-alone : (c : Scan) (t : ℕ) → mustWait n xs i (c .row) t (them (c .row) t) ≡ true
       → (scanOne n xs i t c .row ≡ c .row) × (scanOne n xs i t c .aborts ≡ c .aborts)
       × (scanOne n xs i t c .readies ≡ c .readies)
-  unfolding scanOne waits
+  unfolding scanOne scanWith waits
   scan-waits-alone c t h = rw h (refl, refl, refl)
 
   -- those that `asked` names are in pre_commit
-  asked-in : (r : Row) (t u : ℕ) → has (asked n xs i r t) u ≡ true → statusIn r u ≡ precommit
+  asked-in : (r : Row) (t u : ℕ) → has (asked n r (them r t)) u ≡ true → statusIn r u ≡ precommit
   unfolding asked
   asked-in r t u h =
-      eqb-true (statusIn r u) precommit (both-right (has (conflicts n xs i r t) u) (eqb (statusIn r u) precommit)
+      eqb-true (statusIn r u) precommit (both-right (has (them r t) u) (eqb (statusIn r u) precommit)
       (both-right (ltb u n) _ (rw has-those at h)))
 
   -- "one that was in pre_commit also sends abort": only about such a one is abort sent
@@ -253,7 +257,7 @@ module _ (n : ℕ) (xs : List Txn) (i : ℕ) where
       scan-one (λ d. has (d .aborts) u ≡ true → (has (c .aborts) u ≡ true) ⊎ (statusIn (c .row) u ≡ precommit)) c t
       (λ m h. inl h)
       (λ m h. ⊎-elim inl (λ a. inr (asked-in (c .row) t u a))
-      (either (has (c .aborts) u) (has (asked n xs i (c .row) t) u) (rw has-union at h)))
+      (either (has (c .aborts) u) (has (asked n (c .row) (them (c .row) t)) u) (rw has-union at h)))
 
   -- and so it is of a whole scan: the one about whom abort is sent was in pre_commit before it
   pub scan-asks : (c : Scan) (u : ℕ) → c .rest < 2 ^ 32 → RowShaped (c .row) → u < maxTxns

@@ -2,8 +2,9 @@
 use Prim.Native.Nat.{ℕ, _<_}
 use mathlib.Core.Path.{_≡_, refl, ap, _∙_}
 use mathlib.Core.Bool.{false}
+use mathlib.Core.List.{List}
 use native.Mathlib.Omega.{arith}
-use lib.ListN.{length, length-set}
+use lib.ListN.{length, getD, length-set}
 use lib.Seq.{getD-set-same, getD-set-other}
 use Rattle.protocol.specs.State.{maxSites, noRow, noPlace, emptyChannel, rowAt, placeAt, withRow, withPlace, withQueue, withChannel}
 use Rattle.protocol.specs.Channel.{delivered, multicast}
@@ -25,31 +26,30 @@ abbrev pub besideChannel : Place → Place
 besideChannel p = withChannel p emptyChannel
 
 -- a sending changes channels only
-module _ (m : Message) (to : ℕ → ℕ) (s : State) where
-  sent-length : length (delivered m to s .places) ≡ length (s .places)
+module _ (m : Message) (to : ℕ → ℕ) (ps : List Place) where
+  sent-length : length (delivered m to ps) ≡ length ps
   unfolding delivered
-  sent-length = length-each _ (s .places)
+  sent-length = length-each _ ps
 
-  sent-beside : (j : ℕ) → j < length (s .places) → besideChannel (placeAt (delivered m to s) j) ≡ besideChannel (placeAt s j)
+  sent-beside : (j : ℕ) → j < length ps → besideChannel (getD (delivered m to ps) j noPlace) ≡ besideChannel (getD ps j noPlace)
   unfolding delivered
-  sent-beside j l =
-      ap besideChannel (getD-each _ (s .places) j noPlace l)
+  sent-beside j l = ap besideChannel (getD-each _ ps j noPlace l)
 
 -- a scan leaves the table of transactions alone
 pub scan-table : (s : State) (i : ℕ)
     → (scan s i .state .sites ≡ s .sites) × (scan s i .state .count ≡ s .count) × (scan s i .state .txns ≡ s .txns)
-unfolding scan scanLeaves delivered
+unfolding scan scanLeaves
 scan-table s i = (refl, refl, refl)
 
 module _ (s : State) (i : ℕ) (shaped : Shaped s) (site : i < maxSites) where
   -- the statuses at site i are those of the scan
   pub scan-row : rowAt (scan s i .state) i ≡ scanned s i .row
-  unfolding scan scanLeaves delivered
+  unfolding scan scanLeaves
   scan-row = getD-set-same (s .rows) i (scanned s i .row) noRow (omega arith)
 
   -- other sites keep theirs
   pub scan-row-other : (j : ℕ) → (j ≡ i → ⊥) → rowAt (scan s i .state) j ≡ rowAt s j
-  unfolding scan scanLeaves delivered
+  unfolding scan scanLeaves
   scan-row-other j n = getD-set-other (s .rows) i j (scanned s i .row) noRow n
 
   -- site i with "those that wait", and *remove* false
@@ -64,7 +64,7 @@ module _ (s : State) (i : ℕ) (shaped : Shaped s) (site : i < maxSites) where
       let settled : State = withPlace (withRow s i (scanned s i .row)) i queued in
       let asked : State = multicast Abort i (scanned s i .aborts) settled in
       let size : j < length (settled .places) = simp length-set (omega arith) in
-      sent-beside (Ready i) _ asked j (simp sent-length size) ∙ sent-beside Abort _ settled j size
+      sent-beside (Ready i) _ (asked .places) j (simp sent-length size) ∙ sent-beside Abort _ (settled .places) j size
 
   -- site i keeps its log and its versions
   pub scan-place : besideChannel (placeAt (scan s i .state) i) ≡ besideChannel (withQueue (placeAt s i) (scanned s i .waiting) false)
