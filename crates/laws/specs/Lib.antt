@@ -1,7 +1,17 @@
 pub mod Tests
 pub mod Lists
+pub mod Read
+pub mod Count
 pub mod Shape
 pub mod Enabled
 pub mod Order
 pub mod Scan
 pub mod Scanned
+pub mod State
+pub mod InRange
+pub mod Site
+pub mod Kept
+pub mod ScanKept
+pub mod Actions
+pub mod Begun
+pub mod Ranged

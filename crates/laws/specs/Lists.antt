@@ -1,6 +1,6 @@
 -- The laws of the definitions on lists and on numbers below n.
 use Prim.Native.Nat.{ℕ, zero, suc, _+_, _≤_, _<_}
-use mathlib.Core.Path.{_≡_, refl, sym, ap, _∙_, subst}
+use mathlib.Core.Path.{_≡_, refl, sym, ap, ap₂, _∙_, subst}
 use mathlib.Core.Bool.{Bool, true, false, cond, _&&_, _||_, or-true, false≢true}
 use mathlib.Core.Logic.{_⊎_, inl, inr, ⊎-elim}
 use mathlib.Core.List.{List, [], _∷_, _++_}
@@ -86,6 +86,12 @@ pub all-by : (n : ℕ) (p : ℕ → Bool) → ((k : ℕ) → k < n → p k ≡ t
 unfolding allBelow
 all-by zero p f = refl
 all-by (suc n) p f = both (allBelow n p) (p n) (all-by n p (λ k l. f k (omega arith))) (f n (lt-suc-self n))
+
+-- two tests that agree below n come out alike
+pub all-same : (n : ℕ) (p q : ℕ → Bool) → ((k : ℕ) → k < n → p k ≡ q k) → allBelow n p ≡ allBelow n q
+unfolding allBelow
+all-same zero p q f = refl
+all-same (suc n) p q f = ap₂ _&&_ (all-same n p q (λ k l. f k (omega arith))) (f n (lt-suc-self n))
 
 pub some-at : (n : ℕ) (p : ℕ → Bool) (k : ℕ) → k < n → p k ≡ true → someBelow n p ≡ true
 unfolding someBelow

@@ -34,6 +34,10 @@ txnFine sites n x = within sites (x .missing) && allBelow objects (λ o. leb (ge
 unfoldable pub statusesFine : ℕ → Row → Bool
 statusesFine n r = allBelow n (λ t. leb (statusIn r t) aborted)
 
+-- how many sites may have sent a ready about t: all of them, and none where t is no transaction of the table
+abbrev pub senders : ℕ → ℕ → ℕ → ℕ
+senders sites n t = cond (ltb t n) sites 0
+
 -- "senders of messages name only sites, .. messages only transactions of the table": a ready about a transaction beyond
 -- the table is refused like the other three kinds
 unfoldable pub channelFine : ℕ → ℕ → Channel → Bool
@@ -41,7 +45,7 @@ channelFine sites n c =
     within n (c .remote)
     && (within n (c .commit)
     && (within n (c .abort)
-    && allBelow maxTxns (λ t. within (cond (ltb t n) sites 0) (readyIn c t))))
+    && allBelow maxTxns (λ t. within (senders sites n t) (readyIn c t))))
 
 -- "versions are 0 to the count of transactions"
 unfoldable pub versionsFine : ℕ → Place → Bool
@@ -54,7 +58,8 @@ queueFine n xs i r q =
     within n q
     && allBelow n (λ t. not (has q t) || (not (eqb (txnIn xs t .home) i) && eqb (statusIn r t) idle))
 
--- "each log holds exactly the transactions committed at its site, each once"
+-- "each log holds exactly the transactions committed at its site, each once"; a length beyond the room for entries would
+-- hold what is not there
 unfoldable pub logFine : ℕ → Row → Place → Bool
 logFine n r p =
     leb (p .log .length) maxTxns

@@ -3,7 +3,7 @@ use Prim.Native.Nat.{ℕ}
 use mathlib.Core.Bool.{Bool, not, cond, _&&_}
 use mathlib.Core.List.{List, [], _∷_}
 use lib.Dec.{eqb, ltb, leb}
-use lib.ListN.{length, getD, replicate}
+use lib.ListN.{length, getD, take, replicate}
 use Rattle.sets.specs.Set.{none}
 use Rattle.protocol.specs.Lists.{table, allBelow}
 use Rattle.protocol.specs.State.{maxSites, maxTxns, objects, idle, start, emptyPlace, emptyTxn, emptyState}
@@ -84,3 +84,9 @@ setup sites es = record {
   answer = setupAnswer sites es;
   state = cond (eqb (setupAnswer sites es) 0) (freshState sites es) emptyState;
 }
+
+-- a setup whose entries are handed over by value, 32 of them and how many count; more than that fit no table
+unfoldable pub setupOf : ℕ → ℕ → List Entry → Started
+setupOf sites n es =
+    cond (leb n maxTxns) (setup sites (take n es))
+    (record { answer = cond (sitesFine sites) 22 21; state = emptyState })

@@ -1,0 +1,55 @@
+-- Every event keeps a state in range, and so does every list of events.
+use mathlib.Core.Path.{_≡_}
+use mathlib.Core.Bool.{true, not, Bool·not-not}
+use mathlib.Core.List.{List, [], _∷_}
+use lib.Dec.{ltb}
+use borrow.Author.Tests.{ltb-true}
+use Rattle.protocol.specs.Range.{inRange}
+use Rattle.protocol.specs.Answer.{actionOf, noAction, noSite, noTransaction, illFilled, answer, done, step}
+use Rattle.protocol.specs.Run.{stateAfter}
+use Rattle.protocol.specs.declared.Event.{Event}
+use Rattle.protocol.specs.declared.State.{State}
+use Rattle.laws.specs.Tests.{Same, same, other, same?, both-left, both-right}
+use Rattle.laws.specs.Shape.{Shaped}
+use Rattle.laws.specs.InRange.{range-out, range-in}
+use Rattle.laws.specs.Kept.{Fine}
+use Rattle.laws.specs.Actions.{effect-fine}
+use Rattle.laws.specs.Enabled.{wellFormed, done-exactly, step-done, step-refused}
+
+-- an event that is done has its action enabled, of a site and a transaction that there are
+done-fine : (s : State) (e : Event) → Fine s → answer s e ≡ 0 → Fine (done s e .state)
+unfolding done wellFormed noSite noTransaction
+done-fine s e f h =
+    let a = done-exactly s e .0 h in
+    let b = simp Bool·not-not at (both-right (not (noAction e)) _ (a .1)) in
+    let c = both-right (ltb (e .site) (s .sites)) _ b in
+    effect-fine s (e .site) (e .txn) f (ltb-true (e .site) (s .sites) (both-left _ _ b))
+    (ltb-true (e .txn) (s .count) (both-left _ (not (illFilled s e)) c)) (actionOf e) (a .2)
+
+-- an event that is done finds the state in range, and a refused one leaves it as it is; so what a state in range has is
+-- kept
+kept : (P : State → Type 0) → ((s : State) → Fine s → P s) → (s : State) (e : Event) → Shaped s → P s
+    → P (step s e .state)
+kept P g s e h p = go (same? (answer s e) 0)
+  where
+    go : Same (answer s e) 0 → P (step s e .state)
+    go (same z) =
+        rw (step-done s e z)
+        (g (done s e .state)
+        (done-fine s e (record { shaped = h; ranged = range-out s (done-exactly s e .0 z .0) }) z))
+    go (other n) = rw (step-refused s e n) p
+
+-- every event keeps the lengths of a state
+pub step-shaped : (s : State) (e : Event) → Shaped s → Shaped (step s e .state)
+step-shaped s e h = kept Shaped (λ s′ f. f .shaped) s e h h
+
+-- every event keeps a state in range
+pub step-ranged : (s : State) (e : Event) → Shaped s → inRange s ≡ true → inRange (step s e .state) ≡ true
+step-ranged s e h r = kept (λ s′. inRange s′ ≡ true) (λ s′ f. range-in s′ (f .ranged)) s e h r
+
+-- and so does every list of events
+pub after-ranged : (s : State) (es : List Event) → Shaped s → inRange s ≡ true
+    → (Shaped (stateAfter s es)) × (inRange (stateAfter s es) ≡ true)
+unfolding stateAfter
+after-ranged s [] h r = (h, r)
+after-ranged s (e ∷ es) h r = after-ranged (step s e .state) es (step-shaped s e h) (step-ranged s e h r)
