@@ -132,7 +132,7 @@ setup-in-order sites es = first-decides (setupChecks sites es) refl
 
 -- the event is well filled: it passes the checks 2 to 5
 unfoldable pub wellFormed : State → Event → Bool
-wellFormed s e = not (noAction e) && (not (noSite s e) && (not (noTransaction s e) && not (illFilled s e)))
+wellFormed s e = not (noAction e) && (not (noSite s e) && (not (noTransaction s e) && not (illFilled (s .sites) e)))
 
 -- the event passes the checks 6 to 11
 allowed : State → Event → Bool
@@ -209,7 +209,7 @@ done-exactly s e =
     Iff·trans
     (exactly (answer s e) 0 (inRange s && (wellFormed s e && on))
     (first-at (checks s e) 11 refl
-    ∙ three-groups (inRange s) (not (noAction e)) (not (noSite s e)) (not (noTransaction s e)) (not (illFilled s e))
+    ∙ three-groups (inRange s) (not (noAction e)) (not (noSite s e)) (not (noTransaction s e)) (not (illFilled (s .sites) e))
     (allowed s e) on (allowed-enabled s e)))
     (all-three (inRange s) (wellFormed s e) on)
 

@@ -57,9 +57,9 @@ noTransaction s e = not (ltb (e .txn) (s .count))
 unfoldable pub illKind : Event → Bool
 illKind e = cond (eqb (e .action) 12) (not (leb 1 (e .kind) && leb (e .kind) 4)) (not (eqb (e .kind) 0))
 
-unfoldable pub illFrom : State → Event → Bool
-illFrom s e =
-    cond (eqb (e .action) 8 || (eqb (e .action) 12 && eqb (e .kind) 2)) (not (ltb (e .from) (s .sites)))
+unfoldable pub illFrom : ℕ → Event → Bool
+illFrom sites e =
+    cond (eqb (e .action) 8 || (eqb (e .action) 12 && eqb (e .kind) 2)) (not (ltb (e .from) sites))
     (not (eqb (e .from) 0))
 
 unfoldable pub illReads : Event → Bool
@@ -71,8 +71,8 @@ illWrites e = not (eqb (e .action) 2) && not (eqb (e .writes) 0)
 unfoldable pub illTransaction : Event → Bool
 illTransaction e = eqb (e .action) 11 && not (eqb (e .txn) 0)
 
-unfoldable pub illFilled : State → Event → Bool
-illFilled s e = illKind e || (illFrom s e || (illReads e || (illWrites e || illTransaction e)))
+unfoldable pub illFilled : ℕ → Event → Bool
+illFilled sites e = illKind e || (illFrom sites e || (illReads e || (illWrites e || illTransaction e)))
 
 -- "A fixed table gives each action's required home: 1, 2, 4, 5, 6, 8 at home; 7, 9, 10 away from home; 3, 11, 12 either"
 abbrev pub anywhere : ℕ
@@ -165,7 +165,7 @@ checksInRange s e =
     given 2 (noAction e)
     ∷ given 3 (noSite s e)
     ∷ given 4 (noTransaction s e)
-    ∷ given 5 (illFilled s e)
+    ∷ given 5 (illFilled (s .sites) e)
     ∷ given 6 (wrongHome s e)
     ∷ given 7 (wrongStatus s e)
     ∷ given 8 (wrongMissing s e)
