@@ -24,7 +24,7 @@ done-fine s e f h =
     let b = simp Bool·not-not at (both-right (not (noAction e)) _ (a .1)) in
     let c = both-right (ltb (e .site) (s .sites)) _ b in
     effect-fine s (e .site) (e .txn) f (ltb-true (e .site) (s .sites) (both-left _ _ b))
-    (ltb-true (e .txn) (s .count) (both-left _ (not (illFilled s e)) c)) (actionOf e) (a .2)
+    (ltb-true (e .txn) (s .count) (both-left _ (not (illFilled (s .sites) e)) c)) (actionOf e) (a .2)
 
 -- an event that is done finds the state in range, and a refused one leaves it as it is; so what a state in range has is
 -- kept
