@@ -81,7 +81,7 @@ module _ (n : ℕ) (xs : List Txn) (i : ℕ) where
   -- ---- all turns
 
   -- so the rest has one fewer
-  scan-falls : (c : Scan) → c .rest < 2 ^ 32 → (c .rest ≡ 0 → ⊥)
+  pub scan-falls : (c : Scan) → c .rest < 2 ^ 32 → (c .rest ≡ 0 → ⊥)
       → size (c .rest) ≡ suc (size (scanOne n xs i (highest xs (c .rest)) c .rest))
   scan-falls c l e =
       rw scan-takes (size-without width (c .rest) (highest xs (c .rest)) l (highest-in xs (c .rest) l e .1))
