@@ -1,0 +1,9 @@
+pub mod Arms
+pub mod Bounds
+pub mod Checks
+pub mod EventList
+pub mod Fresh
+pub mod Loops
+pub mod Running
+pub mod Shape
+pub mod Steps

@@ -1,0 +1,79 @@
+-- The first j sites have what the definition puts there, and a turn puts it into the next.
+use Prim.Native.Nat.{_-_, _≤_}
+use mathlib.Core.Path.{_≡_}
+use native.Mathlib.Omega.{arith}
+use lib.ListN.{length}
+use borrow.Author.Needs.{needs}
+use Rattle.protocol.specs.State.{noPlace, withChannel}
+use Rattle.protocol.specs.Channel.{put, homedAt, delivered}
+use Rattle.rules.proofs.Loops.{eachTo, each-begun, each-again, each-ended}
+use Rattle.rules.proofs.channel.ready_home.Statement.{statement}
+use Rattle.rules.proofs.channel.ready_home.Tie as tie
+
+abbrev Inv-loop : tie.InvT-loop
+Inv-loop i ts xs m qs₀ j₀ qs j =
+    (j ≤ 8) × (length qs₀ ≡ 8) × (qs ≡ eachTo (λ k p. withChannel p (put m (homedAt xs ts k) (p .channel))) j qs₀)
+
+abbrev μ-loop : tie.MeasureT-loop
+μ-loop i ts xs m qs₀ j₀ qs j = 8 - j
+
+cast-t8 : tie.Need-cast-t8 Inv-loop μ-loop
+cast-t8 c = search needs
+
+loop-holds : tie.Need-loop-holds Inv-loop μ-loop
+loop-holds c = (search needs, search needs, each-begun _ noPlace _)
+
+homed-at-requires : tie.Need-homed-at-requires Inv-loop μ-loop
+homed-at-requires c κs = search needs
+
+mul-reached : tie.Need-mul-reached Inv-loop μ-loop
+mul-reached c = search needs
+
+array-copy-out-reached : tie.Need-array-copy-out-reached Inv-loop μ-loop
+array-copy-out-reached c = search needs
+
+reached-requires : tie.Need-reached-requires Inv-loop μ-loop
+reached-requires c κs = search needs
+
+mul-qs : tie.Need-mul-qs Inv-loop μ-loop
+mul-qs c = search needs
+
+array-set-from-qs : tie.Need-array-set-from-qs Inv-loop μ-loop
+array-set-from-qs c = search needs
+
+add-j : tie.Need-add-j Inv-loop μ-loop
+add-j c = search needs
+
+loop-less : tie.Need-loop-less Inv-loop μ-loop
+loop-less c = search needs
+
+loop-again : tie.Need-loop-again Inv-loop μ-loop
+loop-again c = (
+  search needs,
+  search needs,
+  each-again _ noPlace _ _ _ _ (c .before .before .before .before .loop .inv .2) (omega arith)
+      (rw (c .reached .ensures, c .before .before .homed-at .ensures)),
+)
+
+returns : tie.Need-returns Inv-loop μ-loop
+unfolding delivered
+returns c = each-ended _ noPlace _ _ _ (c .before .loop .inv .2) (omega arith)
+
+pub ready-home-spec : {M : Type 1} → statement M
+ready-home-spec =
+    tie.close
+    (tie.spec
+    Inv-loop
+    μ-loop
+    cast-t8
+    loop-holds
+    homed-at-requires
+    mul-reached
+    array-copy-out-reached
+    reached-requires
+    mul-qs
+    array-set-from-qs
+    add-j
+    loop-less
+    loop-again
+    returns)

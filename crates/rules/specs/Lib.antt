@@ -1,0 +1,4 @@
+pub mod Copied
+pub mod Refusal
+pub mod Events
+pub mod Decided

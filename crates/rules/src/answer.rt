@@ -1,0 +1,195 @@
+// What an event is answered in a state in range.
+ghost use mathlib.Core.Path.{_≡_};
+ghost use mathlib.Core.Bool.{true, false};
+ghost use Prim.Native.Nat.{_-_, _<_, _≤_};
+ghost use lib.ListN.{getD};
+ghost use Rattle.protocol.specs.Range.{inRange};
+ghost use Rattle.protocol.specs.Answer.{messageOf, noAction, illKind, illFrom, illFilled, anywhere, homeTable, homeMet};
+ghost use Rattle.rules.specs.Refusal.{askedBy, misplacedBy, unless, refusalOf};
+use crate::Asked;
+use crate::channel::lies;
+use crate::database::clash;
+use crate::row::status_in;
+use protocol::Action;
+use protocol::Event;
+use protocol::Message;
+use protocol::State;
+
+// The required home of each action, 1 to 12: 1 at home, 2 away from home, 0 either.
+const HOMES: [u8; 12] = [1, 1, 0, 1, 1, 1, 2, 1, 2, 2, 0, 0];
+
+// The message of a kind. Kinds other than 1 to 4 are refused before it is asked for.
+fn message_of(kind: u32, from: u32) -> Message
+    ensures { λ m. ⌜ m ≡ messageOf kind from ⌝ }
+{
+    match kind {
+        0 => Message::Remote,
+        1 => Message::Remote,
+        2 => Message::Ready(from),
+        3 => Message::Commit,
+        4 => Message::Abort,
+        5..=4294967295 => Message::Remote,
+    }
+}
+
+// The rule that the action number picks, or the refusal of an unknown one.
+pub(crate) fn asked(e: Event) -> Asked
+    ensures { λ k. ⌜ k ≡ askedBy e ⌝ }
+{
+    let a = e.action;
+    match a {
+        0 => Asked::Unknown,
+        1 => Asked::Known(Action::Create),
+        2 => Asked::Known(Action::BeginOperation {
+            reads: e.reads,
+            writes: e.writes,
+        }),
+        3 => Asked::Known(Action::EndOperation),
+        4 => Asked::Known(Action::BeginCommit),
+        5 => Asked::Known(Action::EndCommit),
+        6 => Asked::Known(Action::LocalAbort),
+        7 => Asked::Known(Action::Receive(Message::Remote)),
+        8 => Asked::Known(Action::Receive(Message::Ready(e.from))),
+        9 => Asked::Known(Action::Receive(Message::Commit)),
+        10 => Asked::Known(Action::Receive(Message::Abort)),
+        11 => Asked::Known(Action::ExecuteRemote),
+        12 => Asked::Known(Action::Discard(message_of(e.kind, e.from))),
+        13..=4294967295 => Asked::Unknown,
+    }
+}
+
+// Is the kind ill filled?
+fn ill_kind(e: Event) -> bool
+    ensures { λ b. ⌜ b ≡ illKind e ⌝ }
+{
+    if e.action == 12 {
+        !((1 <= e.kind) & (e.kind <= 4))
+    } else {
+        e.kind != 0
+    }
+}
+
+// Is the sender ill filled?
+fn ill_from(sites: u32, e: Event) -> bool
+    ensures { λ b. ⌜ b ≡ illFrom sites e ⌝ }
+{
+    if (e.action == 8) | ((e.action == 12) & (e.kind == 2)) {
+        !(e.from < sites)
+    } else {
+        e.from != 0
+    }
+}
+
+// Is a field ill filled?
+fn ill_filled(sites: u32, e: Event) -> bool
+    ensures { λ b. ⌜ b ≡ illFilled sites e ⌝ }
+{
+    let masked = e.action != 2;
+    ill_kind(e)
+        | (ill_from(sites, e)
+            | ((masked & (e.reads != 0))
+                | ((masked & (e.writes != 0)) | ((e.action == 11) & (e.txn != 0)))))
+}
+
+// Is the required home h met, where `here` says whether the site is the transaction's home?
+fn home_met(h: u8, here: bool) -> bool
+    ensures { λ b. ⌜ b ≡ homeMet h here ⌝ }
+{
+    (h == 0) | (((h == 1) & here) | ((h == 2) & !here))
+}
+
+// Is the home of action a met?
+fn right_home(a: u32, here: bool) -> bool
+    requires { ⌜ (1 ≤ a) × (a ≤ 12) ⌝ }
+    ensures { λ b. ⌜ b ≡ homeMet (getD homeTable (a - 1) anywhere) here ⌝ }
+{
+    let k = (a - 1) as usize;
+    home_met(HOMES[k], here)
+}
+
+// What is asked of every event whose action is known: 3 to 6, or 0 where all is well.
+pub(crate) fn misplaced(s: State, e: Event) -> u32
+    requires { ⌜ (inRange s ≡ true) × (noAction e ≡ false) ⌝ }
+    ensures { λ n. ⌜ n ≡ misplacedBy s e ⌝ }
+{
+    if s.sites <= e.site {
+        return 3;
+    }
+    if s.count <= e.txn {
+        return 4;
+    }
+    if ill_filled(s.sites, e) {
+        return 5;
+    }
+    let t = e.txn as usize;
+    let x = s.txns[t];
+    if right_home(e.action, x.home == e.site) {
+        0
+    } else {
+        6
+    }
+}
+
+// m where the test passes, else n.
+fn unless(b: bool, n: u32, m: u32) -> u32
+    ensures { λ k. ⌜ k ≡ unless b n m ⌝ }
+{
+    if b { m } else { n }
+}
+
+// What a receive asks.
+fn receive_refusal(m: Message, s: State, i: usize, t: usize) -> u32
+    requires { ⌜ (inRange s ≡ true) × (i < s .sites) × (t < s .count) ⌝ }
+    ensures { λ n. ⌜ n ≡ refusalOf (Action.Receive m) s i t ⌝ }
+{
+    let v = status_in(s.rows[i], t);
+    let x = s.txns[t];
+    let p = s.places[i];
+    let c = p.channel;
+    let there = unless(lies(m, t, c), 9, 0);
+    match m {
+        Message::Remote => unless(v == 0, 7, there),
+        Message::Ready(_) => unless(v == 4, 7, unless(!sets::is_empty(x.missing), 8, there)),
+        Message::Commit => unless(v == 4, 7, there),
+        Message::Abort => unless(!((v == 5) | (v == 6)), 7, there),
+    }
+}
+
+// What the end of an operation asks: no lock clash at home.
+fn end_refusal(s: State, i: usize, t: usize) -> u32
+    requires { ⌜ (inRange s ≡ true) × (i < s .sites) × (t < s .count) ⌝ }
+    ensures { λ n. ⌜ n ≡ refusalOf Action.EndOperation s i t ⌝ }
+{
+    let row = s.rows[i];
+    let xs = s.txns;
+    let x = xs[t];
+    let free = !((x.home as usize == i) & clash(s.count as usize, xs, i, row, t));
+    unless(status_in(row, t) == 3, 7, unless(free, 10, 0))
+}
+
+// What the action itself asks at site i of transaction t: 7 to 11, or 0 where it is enabled.
+pub(crate) fn refusal(a: Action, s: State, i: usize, t: usize) -> u32
+    requires { ⌜ (inRange s ≡ true) × (i < s .sites) × (t < s .count) ⌝ }
+    ensures { λ n. ⌜ n ≡ refusalOf a s i t ⌝ }
+{
+    let v = status_in(s.rows[i], t);
+    let x = s.txns[t];
+    let p = s.places[i];
+    match a {
+        Action::Create => unless(v == 1, 7, 0),
+        Action::BeginOperation {
+            reads: _,
+            writes: _,
+        } => unless(v == 2, 7, 0),
+        Action::EndOperation => end_refusal(s, i, t),
+        Action::BeginCommit => unless(v == 2, 7, 0),
+        Action::EndCommit => unless(v == 4, 7, unless(sets::is_empty(x.missing), 8, 0)),
+        Action::LocalAbort => unless(v == 3, 7, 0),
+        Action::Receive(m) => receive_refusal(m, s, i, t),
+        Action::ExecuteRemote => unless(!sets::is_empty(p.queue) & p.remove, 11, 0),
+        Action::Discard(m) => {
+            let c = p.channel;
+            unless(v == 6, 7, unless(lies(m, t, c), 9, 0))
+        }
+    }
+}
