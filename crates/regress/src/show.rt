@@ -1,0 +1,77 @@
+// What a rehearsed run shows: its answers, the statuses and the log of each site, and the messages sent.
+ghost use Prim.Native.Nat.{_≤_};
+ghost use lib.ListN.{length};
+use libc::STDOUT_FILENO;
+use protocol::Entry;
+use protocol::Log;
+use protocol::Place;
+use protocol::Row;
+use protocol::SITES;
+use protocol::State;
+
+// A number, behind a comma where it is not the first of its line.
+fn item(k: usize, n: u64) {
+    if 0 < k {
+        io::write_all(STDOUT_FILENO, b",");
+    }
+    io::print_decimal(STDOUT_FILENO, n);
+}
+
+// A line that holds a key and a number.
+fn line(key: &[u8], n: u64) {
+    io::write_all(STDOUT_FILENO, key);
+    io::print_decimal(STDOUT_FILENO, n);
+    io::write_all(STDOUT_FILENO, b"\n");
+}
+
+// A line that holds a key and the first n numbers of a list.
+fn list(key: &[u8], l: &[u8], n: usize) {
+    io::write_all(STDOUT_FILENO, key);
+    let mut k = 0usize;
+    while k < n {
+        if k < l.len() {
+            item(k, l[k] as u64);
+        }
+        k = k + 1;
+    }
+    io::write_all(STDOUT_FILENO, b"\n");
+}
+
+// The statuses and the log of one site.
+fn site(row: Row, place: Place, n: usize) {
+    let status = row.status;
+    list(b"status=", &status, n);
+    let log = place.log;
+    let entries = log.entries;
+    list(b"log=", &entries, log.length as usize);
+}
+
+// The statuses and the logs of all sites.
+fn sites(s: State) {
+    let rows = s.rows;
+    let places = s.places;
+    let mut i = 0usize;
+    while i < SITES {
+        if i < s.sites as usize {
+            site(rows[i], places[i], s.count as usize);
+        }
+        i = i + 1;
+    }
+}
+
+// Sets up, runs the events and shows what comes out; a setup or a run that is refused shows its number.
+pub(crate) fn rehearsed(name: u64, count: u32, n: usize, entries: [Entry; 32], events: &[u32]) {
+    line(b"run=", name);
+    let begun = rules::setup_of(count, n, entries);
+    if begun.answer != 0 {
+        line(b"setup=", begun.answer as u64);
+        return;
+    }
+    let fresh = begun.state;
+    let mut answers = [0u8; 1024];
+    let ran = rules::run(fresh, events, &mut answers);
+    list(b"answers=", &answers, events.len() / 7);
+    let last = ran.state;
+    sites(last);
+    line(b"messages=", ran.sent as u64);
+}
