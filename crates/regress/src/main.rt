@@ -1635,8 +1635,7 @@ fn long_run() {
         };
         t = t + 1;
     }
-    let mut events = [0u32; 7168];
-    whole::fill(&mut events);
+    let events = whole::filled();
     rehearsed(1024, 8, 32, entries, &events);
 }
 

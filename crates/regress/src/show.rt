@@ -1,6 +1,5 @@
 // What a rehearsed run shows: its answers, the statuses and the log of each site, and the messages sent.
 ghost use Prim.Native.Nat.{_≤_};
-ghost use lib.ListN.{length};
 use libc::STDOUT_FILENO;
 use protocol::Entry;
 use protocol::Log;
@@ -24,14 +23,25 @@ fn line(key: &[u8], n: u64) {
     io::write_all(STDOUT_FILENO, b"\n");
 }
 
-// A line that holds a key and the first n numbers of a list.
+// The byte v as a number to print.
+fn wide(v: u8) -> u64 {
+    v as u64
+}
+
+// The smaller of two counts.
+fn least(a: usize, b: usize) -> usize
+    ensures { λ r. ⌜ r ≤ b ⌝ }
+{
+    if a < b { a } else { b }
+}
+
+// A line that holds a key and the first n numbers of a list, or all of them where it has fewer.
 fn list(key: &[u8], l: &[u8], n: usize) {
     io::write_all(STDOUT_FILENO, key);
+    let m = least(n, l.len());
     let mut k = 0usize;
-    while k < n {
-        if k < l.len() {
-            item(k, l[k] as u64);
-        }
+    while k < m {
+        item(k, wide(l[k]));
         k = k + 1;
     }
     io::write_all(STDOUT_FILENO, b"\n");
@@ -50,11 +60,10 @@ fn site(row: Row, place: Place, n: usize) {
 fn sites(s: State) {
     let rows = s.rows;
     let places = s.places;
+    let m = least(s.sites as usize, SITES);
     let mut i = 0usize;
-    while i < SITES {
-        if i < s.sites as usize {
-            site(rows[i], places[i], s.count as usize);
-        }
+    while i < m {
+        site(rows[i], places[i], s.count as usize);
         i = i + 1;
     }
 }

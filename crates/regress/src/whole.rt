@@ -59,16 +59,17 @@ fn committing(events: &mut [u32; 7168], start: usize, t: u32) -> usize {
 }
 
 // The whole list: the transactions 0 to 24, and then t0's create again and again.
-pub(crate) fn fill(events: &mut [u32; 7168]) -> usize {
+pub(crate) fn filled() -> [u32; 7168] {
+    let mut events = [0u32; 7168];
     let mut at = 0usize;
     let mut k = 0u32;
     while k < 49 {
         at = if k < 25 {
-            committing(events, at, k)
+            committing(&mut events, at, k)
         } else {
-            put(events, at, 1, 0, 0, 0, 0)
+            put(&mut events, at, 1, 0, 0, 0, 0)
         };
         k = k + 1;
     }
-    at
+    events
 }

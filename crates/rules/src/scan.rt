@@ -69,8 +69,9 @@ fn submits(n: usize, t: usize, them: u32, c: Scan) -> Scan
     let before = row.status;
     let status = store_at(them, 6, before);
     let after = row_with(Row { status }, t, 3);
+    let rest = sets::without(c.rest, t);
     let mut d = c;
-    d.rest = sets::without(c.rest, t);
+    d.rest = rest;
     d.row = after;
     d.aborts = sets::union(c.aborts, asked(n, row, them));
     d.readies = sets::with(c.readies, t);
