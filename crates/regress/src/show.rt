@@ -1,8 +1,8 @@
 // What a rehearsed run shows: its answers, the statuses and the log of each site, and the messages sent.
 ghost use Prim.Native.Nat.{_≤_};
+use crate::script::Script;
 use libc::STDOUT_FILENO;
 use protocol::Entry;
-use protocol::Log;
 use protocol::Place;
 use protocol::Row;
 use protocol::SITES;
@@ -68,8 +68,21 @@ fn sites(s: State) {
     }
 }
 
-// Sets up, runs the events and shows what comes out; a setup or a run that is refused shows its number.
-pub(crate) fn rehearsed(name: u64, count: u32, n: usize, entries: [Entry; 32], events: &[u32]) {
+// Runs the first n of the numbers as events and shows what comes out.
+fn ran(fresh: State, numbers: [u32; 7168], n: usize) {
+    if 7168 < n {
+        return;
+    }
+    let mut answers = [0u8; 1024];
+    let ran = rules::run(fresh, &numbers[..n], &mut answers);
+    list(b"answers=", &answers, n / 7);
+    let last = ran.state;
+    sites(last);
+    line(b"messages=", ran.sent as u64);
+}
+
+// Sets up, runs the events and shows what comes out; a setup that is refused shows its number.
+pub(crate) fn rehearsed(name: u64, count: u32, n: usize, entries: [Entry; 32], events: Script) {
     line(b"run=", name);
     let begun = rules::setup_of(count, n, entries);
     if begun.answer != 0 {
@@ -77,10 +90,6 @@ pub(crate) fn rehearsed(name: u64, count: u32, n: usize, entries: [Entry; 32], e
         return;
     }
     let fresh = begun.state;
-    let mut answers = [0u8; 1024];
-    let ran = rules::run(fresh, events, &mut answers);
-    list(b"answers=", &answers, events.len() / 7);
-    let last = ran.state;
-    sites(last);
-    line(b"messages=", ran.sent as u64);
+    let numbers = events.numbers;
+    ran(fresh, numbers, events.at);
 }

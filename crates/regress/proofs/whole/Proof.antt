@@ -1,8 +1,8 @@
 -- The loop fills 32 entries.
 use Prim.Native.Nat.{_≤_, _-_}
 use borrow.Author.Needs.{needs}
-use Rattle.regress.proofs.long_run.Statement.{statement}
-use Rattle.regress.proofs.long_run.Tie as tie
+use Rattle.regress.proofs.whole.Statement.{statement}
+use Rattle.regress.proofs.whole.Tie as tie
 
 abbrev Inv-loop : tie.InvT-loop
 Inv-loop entries₀ t₀ entries t = t ≤ 32
@@ -10,8 +10,8 @@ Inv-loop entries₀ t₀ entries t = t ≤ 32
 abbrev μ-loop : tie.MeasureT-loop
 μ-loop entries₀ t₀ entries t = 32 - t
 
-table-requires : tie.Need-table-requires Inv-loop μ-loop
-table-requires c κs = search needs
+three-requires : tie.Need-three-requires Inv-loop μ-loop
+three-requires c κs = search needs
 
 loop-holds : tie.Need-loop-holds Inv-loop μ-loop
 loop-holds c = search needs
@@ -34,11 +34,8 @@ loop-less c = search needs
 loop-again : tie.Need-loop-again Inv-loop μ-loop
 loop-again c = search needs
 
-filled-requires : tie.Need-filled-requires Inv-loop μ-loop
-filled-requires c κs = search needs
-
-slice-aggregate-rehearsed : tie.Need-slice-aggregate-rehearsed Inv-loop μ-loop
-slice-aggregate-rehearsed c = search needs
+full-requires : tie.Need-full-requires Inv-loop μ-loop
+full-requires c κs = search needs
 
 rehearsed-requires : tie.Need-rehearsed-requires Inv-loop μ-loop
 rehearsed-requires c κs = search needs
@@ -46,13 +43,13 @@ rehearsed-requires c κs = search needs
 returns : tie.Need-returns Inv-loop μ-loop
 returns c = search needs
 
-pub long-run-spec : {M : Type 1} → statement M
-long-run-spec =
+pub whole-spec : {M : Type 1} → statement M
+whole-spec =
     tie.close
     (tie.spec
     Inv-loop
     μ-loop
-    table-requires
+    three-requires
     loop-holds
     cast-entries
     mul-entries
@@ -60,7 +57,6 @@ long-run-spec =
     add-t
     loop-less
     loop-again
-    filled-requires
-    slice-aggregate-rehearsed
+    full-requires
     rehearsed-requires
     returns)
