@@ -139,7 +139,7 @@ allowed : State → Event → Bool
 allowed s e = noneApplies (drop 5 (checks s e))
 
 -- the event with the action a
-abbrev numbered : Event → ℕ → Event
+abbrev pub numbered : Event → ℕ → Event
 numbered e a = record {
   action = a;
   site = e .site;

@@ -13,6 +13,7 @@ use Rattle.protocol.specs.Check.{Check, given, firstOf}
 use Rattle.protocol.specs.Answer.{actionOf, noAction, noSite, noTransaction, illFilled, wrongHome, wrongStatus, wrongMissing, messageThere, noMessage, lockClash, noScan, checksInRange}
 use Rattle.protocol.specs.declared.Event.{Event}
 use Rattle.protocol.specs.declared.State.{State}
+use Rattle.laws.specs.Enabled.{numbered}
 use Rattle.laws.specs.Tests.{both-left, both-right}
 use Rattle.laws.specs.Lists.{getD-table}
 use Rattle.rules.specs.Refusal.{misplacedBy, unless, refusalOf}
@@ -53,18 +54,6 @@ cond-not false n m = refl
 or-not : (a b : Bool) → (a || not b) ≡ not (not a && b)
 or-not true b = refl
 or-not false b = refl
-
--- the event with the action a
-abbrev numbered : Event → ℕ → Event
-numbered e a = record {
-  action = a;
-  site = e .site;
-  txn = e .txn;
-  kind = e .kind;
-  from = e .from;
-  reads = e .reads;
-  writes = e .writes;
-}
 
 -- the checks that are made of every event, and those that the action itself makes
 abbrev placeChecks : State → Event → List Check
