@@ -4,14 +4,67 @@
 // How many sites a state has room for: the most that a setup may ask for. The definitions call it maxSites.
 pub const SITES: usize = 8;
 
+// The statuses of a transaction at a site.
+pub const IDLE: u8 = 0;
+
+pub const START: u8 = 1;
+
+pub const ACTIVE: u8 = 2;
+
+pub const BLOCKED: u8 = 3;
+
+pub const PRE_COMMIT: u8 = 4;
+
+pub const COMMITTED: u8 = 5;
+
+pub const ABORTED: u8 = 6;
+
+// The answers of an event, in the order of the checks.
+pub const ACCEPTED: u32 = 0;
+
+pub const OUT_OF_RANGE: u32 = 1;
+
+pub const NO_ACTION: u32 = 2;
+
+pub const NO_SITE: u32 = 3;
+
+pub const NO_TRANSACTION: u32 = 4;
+
+pub const ILL_FILLED: u32 = 5;
+
+pub const WRONG_HOME: u32 = 6;
+
+pub const WRONG_STATUS: u32 = 7;
+
+pub const WRONG_MISSING: u32 = 8;
+
+pub const NO_MESSAGE: u32 = 9;
+
+pub const LOCK_CLASH: u32 = 10;
+
+pub const NO_SCAN: u32 = 11;
+
+// The refusals of a setup.
+pub const WRONG_SITES: u32 = 21;
+
+pub const WRONG_COUNT: u32 = 22;
+
+pub const NO_HOME: u32 = 23;
+
+pub const EQUAL_PRIORITIES: u32 = 25;
+
+// The refusals of a run, which may also be out of range.
+pub const TOO_MANY_EVENTS: u32 = 31;
+
+pub const NO_ROOM: u32 = 32;
+
 // One entry of the lent table of transactions: home site and priority.
 pub struct Entry {
     pub home: u32,
     pub priority: u32,
 }
 
-// The statuses at one site, one for each transaction: 0 idle, 1 start, 2 active, 3 blocked, 4 pre_commit, 5 committed,
-// 6 aborted.
+// The statuses at one site, one for each transaction.
 pub struct Row {
     pub status: [u8; 32],
 }

@@ -10,13 +10,50 @@ use crate::Asked;
 use crate::channel::lies;
 use crate::database::clash;
 use crate::row::status_in;
+use protocol::ABORTED;
+use protocol::ACCEPTED;
+use protocol::ACTIVE;
 use protocol::Action;
+use protocol::BLOCKED;
+use protocol::COMMITTED;
 use protocol::Event;
+use protocol::IDLE;
+use protocol::ILL_FILLED;
+use protocol::LOCK_CLASH;
 use protocol::Message;
+use protocol::NO_MESSAGE;
+use protocol::NO_SCAN;
+use protocol::NO_SITE;
+use protocol::NO_TRANSACTION;
+use protocol::PRE_COMMIT;
+use protocol::START;
 use protocol::State;
+use protocol::WRONG_HOME;
+use protocol::WRONG_MISSING;
+use protocol::WRONG_STATUS;
 
-// The required home of each action, 1 to 12: 1 at home, 2 away from home, 0 either.
-const HOMES: [u8; 12] = [1, 1, 0, 1, 1, 1, 2, 1, 2, 2, 0, 0];
+// Where an action is taken: anywhere, at the transaction's home, or away from it.
+const EITHER: u8 = 0;
+
+const HOME: u8 = 1;
+
+const AWAY: u8 = 2;
+
+// The required home of each action, 1 to 12.
+const HOMES: [u8; 12] = [
+    HOME,
+    HOME,
+    EITHER,
+    HOME,
+    HOME,
+    HOME,
+    AWAY,
+    HOME,
+    AWAY,
+    AWAY,
+    EITHER,
+    EITHER,
+];
 
 // The message of a kind. Kinds other than 1 to 4 are refused before it is asked for.
 fn message_of(kind: u32, from: u32) -> Message
@@ -95,7 +132,7 @@ fn ill_filled(sites: u32, e: Event) -> bool
 fn home_met(h: u8, here: bool) -> bool
     ensures { λ b. ⌜ b ≡ homeMet h here ⌝ }
 {
-    (h == 0) | (((h == 1) & here) | ((h == 2) & !here))
+    (h == EITHER) | (((h == HOME) & here) | ((h == AWAY) & !here))
 }
 
 // Is the home of action a met?
@@ -113,20 +150,20 @@ pub(crate) fn misplaced(s: State, e: Event) -> u32
     ensures { λ n. ⌜ n ≡ misplacedBy s e ⌝ }
 {
     if s.sites <= e.site {
-        return 3;
+        return NO_SITE;
     }
     if s.count <= e.txn {
-        return 4;
+        return NO_TRANSACTION;
     }
     if ill_filled(s.sites, e) {
-        return 5;
+        return ILL_FILLED;
     }
     let t = e.txn as usize;
     let x = s.txns[t];
     if right_home(e.action, x.home == e.site) {
-        0
+        ACCEPTED
     } else {
-        6
+        WRONG_HOME
     }
 }
 
@@ -146,12 +183,16 @@ fn receive_refusal(m: Message, s: State, i: usize, t: usize) -> u32
     let x = s.txns[t];
     let p = s.places[i];
     let c = p.channel;
-    let there = unless(lies(m, t, c), 9, 0);
+    let there = unless(lies(m, t, c), NO_MESSAGE, ACCEPTED);
     match m {
-        Message::Remote => unless(v == 0, 7, there),
-        Message::Ready(_) => unless(v == 4, 7, unless(!sets::is_empty(x.missing), 8, there)),
-        Message::Commit => unless(v == 4, 7, there),
-        Message::Abort => unless(!((v == 5) | (v == 6)), 7, there),
+        Message::Remote => unless(v == IDLE, WRONG_STATUS, there),
+        Message::Ready(_) => unless(
+            v == PRE_COMMIT,
+            WRONG_STATUS,
+            unless(!sets::is_empty(x.missing), WRONG_MISSING, there),
+        ),
+        Message::Commit => unless(v == PRE_COMMIT, WRONG_STATUS, there),
+        Message::Abort => unless(!((v == COMMITTED) | (v == ABORTED)), WRONG_STATUS, there),
     }
 }
 
@@ -164,7 +205,11 @@ fn end_refusal(s: State, i: usize, t: usize) -> u32
     let xs = s.txns;
     let x = xs[t];
     let free = !((x.home as usize == i) & clash(s.count as usize, xs, i, row, t));
-    unless(status_in(row, t) == 3, 7, unless(free, 10, 0))
+    unless(
+        status_in(row, t) == BLOCKED,
+        WRONG_STATUS,
+        unless(free, LOCK_CLASH, ACCEPTED),
+    )
 }
 
 // What the action itself asks at site i of transaction t: 7 to 11, or 0 where it is enabled.
@@ -176,20 +221,28 @@ pub(crate) fn refusal(a: Action, s: State, i: usize, t: usize) -> u32
     let x = s.txns[t];
     let p = s.places[i];
     match a {
-        Action::Create => unless(v == 1, 7, 0),
+        Action::Create => unless(v == START, WRONG_STATUS, ACCEPTED),
         Action::BeginOperation {
             reads: _,
             writes: _,
-        } => unless(v == 2, 7, 0),
+        } => unless(v == ACTIVE, WRONG_STATUS, ACCEPTED),
         Action::EndOperation => end_refusal(s, i, t),
-        Action::BeginCommit => unless(v == 2, 7, 0),
-        Action::EndCommit => unless(v == 4, 7, unless(sets::is_empty(x.missing), 8, 0)),
-        Action::LocalAbort => unless(v == 3, 7, 0),
+        Action::BeginCommit => unless(v == ACTIVE, WRONG_STATUS, ACCEPTED),
+        Action::EndCommit => unless(
+            v == PRE_COMMIT,
+            WRONG_STATUS,
+            unless(sets::is_empty(x.missing), WRONG_MISSING, ACCEPTED),
+        ),
+        Action::LocalAbort => unless(v == BLOCKED, WRONG_STATUS, ACCEPTED),
         Action::Receive(m) => receive_refusal(m, s, i, t),
-        Action::ExecuteRemote => unless(!sets::is_empty(p.queue) & p.remove, 11, 0),
+        Action::ExecuteRemote => unless(!sets::is_empty(p.queue) & p.remove, NO_SCAN, ACCEPTED),
         Action::Discard(m) => {
             let c = p.channel;
-            unless(v == 6, 7, unless(lies(m, t, c), 9, 0))
+            unless(
+                v == ABORTED,
+                WRONG_STATUS,
+                unless(lies(m, t, c), NO_MESSAGE, ACCEPTED),
+            )
         }
     }
 }

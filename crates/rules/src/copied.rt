@@ -7,15 +7,21 @@ use crate::table::count_fine;
 use crate::table::homes_fine;
 use crate::table::priorities_differ;
 use crate::table::sites_fine;
+use protocol::ACCEPTED;
 use protocol::Channel;
+use protocol::EQUAL_PRIORITIES;
 use protocol::Entry;
 use protocol::Log;
+use protocol::NO_HOME;
 use protocol::Place;
 use protocol::Row;
 use protocol::SITES;
+use protocol::START;
 use protocol::Started;
 use protocol::State;
 use protocol::Txn;
+use protocol::WRONG_COUNT;
+use protocol::WRONG_SITES;
 
 // The empty state.
 pub(crate) fn blank() -> State
@@ -92,7 +98,7 @@ fn started_row(n: usize, xs: [Txn; 32], i: usize) -> Row
     while t < n {
         let x = xs[t];
         if x.home as usize == i {
-            status[t] = 1;
+            status[t] = START;
         }
         t = t + 1;
     }
@@ -127,22 +133,25 @@ pub(crate) fn judged(sites: u32, n: usize, s: State) -> Started
     ensures { λ r. ⌜ r ≡ judgedOf sites n s ⌝ }
 {
     if !sites_fine(sites) {
-        return refused(21);
+        return refused(WRONG_SITES);
     }
     if !count_fine(n) {
-        return refused(22);
+        return refused(WRONG_COUNT);
     }
     let xs = s.txns;
     if !homes_fine(sites, n, xs) {
-        return refused(23);
+        return refused(NO_HOME);
     }
     if !priorities_differ(n, xs) {
-        return refused(25);
+        return refused(EQUAL_PRIORITIES);
     }
     let rows = started_rows(n, xs);
     let mut state = s;
     state.sites = sites;
     state.count = n as u32;
     state.rows = rows;
-    Started { answer: 0, state }
+    Started {
+        answer: ACCEPTED,
+        state,
+    }
 }

@@ -6,7 +6,10 @@ ghost use lib.ListN.{getD};
 ghost use Rattle.protocol.specs.Database.{executes, heldReads, heldWrites, held, clashesWith, conflictsWith, clash, conflicts, noted, ended, woken, appended, stored};
 use crate::row::status_in;
 use crate::row::store_at;
+use protocol::ACTIVE;
+use protocol::BLOCKED;
 use protocol::Log;
+use protocol::PRE_COMMIT;
 use protocol::Place;
 use protocol::Row;
 use protocol::Txn;
@@ -15,7 +18,7 @@ use protocol::Txn;
 pub(crate) fn executes(v: u8) -> bool
     ensures { λ b. ⌜ b ≡ executes v ⌝ }
 {
-    (v == 2) | ((v == 3) | (v == 4))
+    (v == ACTIVE) | ((v == BLOCKED) | (v == PRE_COMMIT))
 }
 
 // What transaction x of status v holds for reading at site i.

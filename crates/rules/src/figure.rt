@@ -15,9 +15,14 @@ use crate::database::stored;
 use crate::database::woken;
 use crate::row::row_with;
 use crate::scan::scan_all;
+use protocol::ABORTED;
+use protocol::ACTIVE;
 use protocol::Action;
+use protocol::BLOCKED;
+use protocol::COMMITTED;
 use protocol::Done;
 use protocol::Message;
+use protocol::PRE_COMMIT;
 use protocol::Scan;
 use protocol::State;
 
@@ -47,7 +52,7 @@ fn begin_operation(s: State, i: usize, t: usize, reads: u32, writes: u32) -> Don
     let mut x = s.txns[t];
     x.pendingreads = reads;
     x.pendingwrites = writes;
-    let mut n = with_status(s, i, t, 3);
+    let mut n = with_status(s, i, t, BLOCKED);
     n.txns[t] = x;
     silent(n)
 }
@@ -60,11 +65,11 @@ fn end_operation(s: State, i: usize, t: usize) -> Done
     let x = s.txns[t];
     if x.home as usize == i {
         let y = ended(x, s.places[i]);
-        let mut n = with_status(s, i, t, 2);
+        let mut n = with_status(s, i, t, ACTIVE);
         n.txns[t] = y;
         silent(n)
     } else {
-        silent(with_status(s, i, t, 4))
+        silent(with_status(s, i, t, PRE_COMMIT))
     }
 }
 
@@ -78,7 +83,7 @@ fn begin_commit(s: State, i: usize, t: usize) -> Done
     x.missing = others;
     let old = s.places;
     let places = multicast(Message::Remote, others, sets::with(0, t), old);
-    let mut n = with_status(s, i, t, 4);
+    let mut n = with_status(s, i, t, PRE_COMMIT);
     n.txns[t] = x;
     n.places = places;
     Done {
@@ -97,7 +102,7 @@ fn end_commit(s: State, i: usize, t: usize) -> Done
     let mut old = s.places;
     old[i] = stored(old[i], t, x.writes);
     let places = multicast(Message::Commit, others, sets::with(0, t), old);
-    let mut n = with_status(s, i, t, 5);
+    let mut n = with_status(s, i, t, COMMITTED);
     n.places = places;
     Done {
         state: n,
@@ -112,7 +117,7 @@ fn local_abort(s: State, i: usize, t: usize) -> Done
 {
     let mut p = s.places[i];
     p.remove = true;
-    let mut n = with_status(s, i, t, 6);
+    let mut n = with_status(s, i, t, ABORTED);
     n.places[i] = p;
     silent(n)
 }
@@ -151,7 +156,7 @@ fn receive_commit(s: State, i: usize, t: usize) -> Done
 {
     let x = s.txns[t];
     let p = stored(received(Message::Commit, t, s.places[i]), t, x.writes);
-    let mut n = with_status(s, i, t, 5);
+    let mut n = with_status(s, i, t, COMMITTED);
     n.places[i] = p;
     silent(n)
 }
@@ -164,7 +169,7 @@ fn receive_abort(s: State, i: usize, t: usize) -> Done
     let mut p = received(Message::Abort, t, s.places[i]);
     p.queue = sets::without(p.queue, t);
     let q = woken(p);
-    let mut n = with_status(s, i, t, 6);
+    let mut n = with_status(s, i, t, ABORTED);
     n.places[i] = q;
     silent(n)
 }
@@ -242,7 +247,7 @@ pub(crate) fn effect(a: Action, s: State, i: usize, t: usize) -> Done
     ensures { λ d. ⌜ d ≡ effect a s i t ⌝ }
 {
     match a {
-        Action::Create => silent(with_status(s, i, t, 2)),
+        Action::Create => silent(with_status(s, i, t, ACTIVE)),
         Action::BeginOperation { reads, writes } => begin_operation(s, i, t, reads, writes),
         Action::EndOperation => end_operation(s, i, t),
         Action::BeginCommit => begin_commit(s, i, t),

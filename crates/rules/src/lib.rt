@@ -27,13 +27,17 @@ use copied::entered;
 use copied::judged;
 use copied::taken;
 use events::event_at;
+use protocol::ACCEPTED;
 use protocol::Action;
 use protocol::Entry;
 use protocol::Event;
+use protocol::NO_ROOM;
+use protocol::OUT_OF_RANGE;
 use protocol::Ran;
 use protocol::Started;
 use protocol::State;
 use protocol::Stepped;
+use protocol::TOO_MANY_EVENTS;
 
 // What the number of an event asks for.
 pub enum Asked {
@@ -77,7 +81,7 @@ pub fn step(s: State, e: Event) -> Stepped
     if in_range(s) {
         step_in(s, e)
     } else {
-        refused(1, s)
+        refused(OUT_OF_RANGE, s)
     }
 }
 
@@ -99,13 +103,13 @@ pub fn run(s: State, events: &[u32], answers: &mut [u8]) -> Ran
 {
     let n = events.len() / 7;
     if 1024 < n {
-        return refused_run(31, s);
+        return refused_run(TOO_MANY_EVENTS, s);
     }
     if answers.len() < n {
-        return refused_run(32, s);
+        return refused_run(NO_ROOM, s);
     }
     if !in_range(s) {
-        return refused_run(1, s);
+        return refused_run(OUT_OF_RANGE, s);
     }
     let mut state = s;
     let mut sent = 0u32;
@@ -118,7 +122,7 @@ pub fn run(s: State, events: &[u32], answers: &mut [u8]) -> Ran
         k = k + 1;
     }
     Ran {
-        answer: 0,
+        answer: ACCEPTED,
         sent,
         state,
     }

@@ -12,7 +12,9 @@ use crate::table::count_fine;
 use crate::table::homes_fine;
 use crate::table::priorities_differ;
 use crate::table::sites_fine;
+use protocol::ABORTED;
 use protocol::Channel;
+use protocol::IDLE;
 use protocol::Place;
 use protocol::Row;
 use protocol::SITES;
@@ -64,7 +66,7 @@ fn statuses_fine(n: usize, r: Row) -> bool
     let mut fine = true;
     let mut t = 0usize;
     while t < n {
-        fine = fine & (status[t] <= 6);
+        fine = fine & (status[t] <= ABORTED);
         t = t + 1;
     }
     fine
@@ -116,7 +118,7 @@ fn queued_fine(n: usize, xs: [Txn; 32], i: usize, r: Row, q: u32) -> bool
     let mut t = 0usize;
     while t < n {
         let x = xs[t];
-        fine = fine & (!sets::has(q, t) | ((x.home as usize != i) & (status[t] == 0)));
+        fine = fine & (!sets::has(q, t) | ((x.home as usize != i) & (status[t] == IDLE)));
         t = t + 1;
     }
     fine

@@ -8,6 +8,9 @@ use crate::order::outranks;
 use crate::row::row_with;
 use crate::row::status_in;
 use crate::row::store_at;
+use protocol::ABORTED;
+use protocol::BLOCKED;
+use protocol::PRE_COMMIT;
 use protocol::Row;
 use protocol::Scan;
 use protocol::Txn;
@@ -16,7 +19,7 @@ use protocol::Txn;
 fn makes_wait(x: Txn, y: Txn, i: usize, v: u8) -> bool
     ensures { λ b. ⌜ b ≡ makesWait x y i v ⌝ }
 {
-    (y.home as usize != i) | ((v == 4) & !outranks(x, y))
+    (y.home as usize != i) | ((v == PRE_COMMIT) & !outranks(x, y))
 }
 
 // Does one of them, the conflicts of t, make t wait?
@@ -52,7 +55,7 @@ fn asked(n: usize, r: Row, them: u32) -> u32
     let mut found = 0u32;
     let mut u = 0usize;
     while u < n {
-        if sets::has(them, u) & (status_in(r, u) == 4) {
+        if sets::has(them, u) & (status_in(r, u) == PRE_COMMIT) {
             found = sets::with(found, u);
         }
         u = u + 1;
@@ -67,8 +70,8 @@ fn submits(n: usize, t: usize, them: u32, c: Scan) -> Scan
 {
     let row = c.row;
     let before = row.status;
-    let status = store_at(them, 6, before);
-    let after = row_with(Row { status }, t, 3);
+    let status = store_at(them, ABORTED, before);
+    let after = row_with(Row { status }, t, BLOCKED);
     let rest = sets::without(c.rest, t);
     let mut d = c;
     d.rest = rest;

@@ -9,8 +9,10 @@ use crate::answer::asked;
 use crate::answer::misplaced;
 use crate::answer::refusal;
 use crate::figure::effect;
+use protocol::ACCEPTED;
 use protocol::Action;
 use protocol::Event;
+use protocol::NO_ACTION;
 use protocol::State;
 use protocol::Stepped;
 
@@ -31,19 +33,19 @@ fn tried(s: State, e: Event, a: Action) -> Stepped
     ensures { λ r. ⌜ (r ≡ step s e) × (r .answer ≤ 11) × (r .sent ≤ 1056) ⌝ }
 {
     let n = misplaced(s, e);
-    if n != 0 {
+    if n != ACCEPTED {
         return refused(n, s);
     }
     let i = e.site as usize;
     let t = e.txn as usize;
     let k = refusal(a, s, i, t);
-    if k != 0 {
+    if k != ACCEPTED {
         return refused(k, s);
     }
     let d = effect(a, s, i, t);
     let state = d.state;
     Stepped {
-        answer: 0,
+        answer: ACCEPTED,
         sent: d.sent,
         state,
     }
@@ -57,6 +59,6 @@ pub(crate) fn step_in(s: State, e: Event) -> Stepped
     let k = asked(e);
     match k {
         Asked::Known(a) => tried(s, e, a),
-        Asked::Unknown => refused(2, s),
+        Asked::Unknown => refused(NO_ACTION, s),
     }
 }
