@@ -12,6 +12,7 @@ use Rattle.sets.specs.Laws.{has-all-but, has-without-same}
 use Rattle.protocol.specs.State.{idle, start, active, blocked, precommit, committed, aborted, rowAt, placeAt, txnAt, statusAt, versionIn, atHome, rowWith, withPending, withMissing, withStatus, withPlace, noRow, noPlace}
 use Rattle.protocol.specs.Database.{noted, ended, woken, commitHere}
 use Rattle.protocol.specs.Channel.{received, others, multicast}
+use Rattle.protocol.specs.Scan.{scanLeaves, scan}
 use Rattle.protocol.specs.Figure.{is, away, enabled, effect, only, inChannel}
 use Rattle.protocol.specs.declared.Message.{Message}
 use Rattle.protocol.specs.declared.Message.the-variants.{Remote, Ready, Commit, Abort}
@@ -30,7 +31,7 @@ use Rattle.laws.specs.ScanKept.{scan-fine}
 use Rattle.laws.specs.Kept.{Fine, TxnKept, txn-stands, site-stands, site-anew, txn-anew, multicast-fine}
 
 -- the sites other than i are sites
-others-below : (s : State) (i : ℕ) → Below (s .sites) (others s i)
+pub others-below : (s : State) (i : ℕ) → Below (s .sites) (others s i)
 others-below s i k m =
     ltb-true k (s .sites) (both-left _ (ltb k width) (both-left _ (not (eqb k i)) (sym (has-all-but width (s .sites) i k) ∙ m)))
 
@@ -178,3 +179,22 @@ module _ (s : State) (i t : ℕ) (f : Fine s) (hi : i < s .sites) (ht : t < s .c
       (has-without-same (placeAt s i .queue) t) (omega arith) (λ e. omega arith))
   effect-fine ExecuteRemote h = scan-fine s i f hi
   effect-fine (Discard m) h = placed (with-taken here m t)
+
+-- no action changes the counts
+pub effect-counts : (a : Action) (s : State) (i t : ℕ)
+    → (effect a s i t .state .sites ≡ s .sites) × (effect a s i t .state .count ≡ s .count)
+unfolding effect commitHere scan scanLeaves
+effect-counts Create s i t = (refl, refl)
+effect-counts (BeginOperation r w) s i t = (refl, refl)
+effect-counts EndOperation s i t =
+    cond-keeps (λ (x : State). (x .sites ≡ s .sites) × (x .count ≡ s .count)) (atHome s i t) _ _ (λ e. (refl, refl))
+    (λ e. (refl, refl))
+effect-counts BeginCommit s i t = (refl, refl)
+effect-counts EndCommit s i t = (refl, refl)
+effect-counts LocalAbort s i t = (refl, refl)
+effect-counts (Receive Remote) s i t = (refl, refl)
+effect-counts (Receive (Ready k)) s i t = (refl, refl)
+effect-counts (Receive Commit) s i t = (refl, refl)
+effect-counts (Receive Abort) s i t = (refl, refl)
+effect-counts ExecuteRemote s i t = (refl, refl)
+effect-counts (Discard m) s i t = (refl, refl)

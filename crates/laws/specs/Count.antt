@@ -1,10 +1,11 @@
--- How long a list of numbers below n is that holds no number twice: a list that lacks one is shorter than n.
-use Prim.Native.Nat.{ℕ, zero, suc, _+_, _≤_, _<_}
-use mathlib.Core.Path.{_≡_, refl, ap, ap₂, _∙_}
-use mathlib.Core.Bool.{true, cond}
+-- Sums of n numbers, and how long a list of numbers below n is that holds no number twice: a list that lacks one is
+-- shorter than n.
+use Prim.Native.Nat.{ℕ, zero, suc, _+_, _*_, _≤_, _<_}
+use mathlib.Core.Path.{_≡_, refl, sym, ap, ap₂, _∙_}
+use mathlib.Core.Bool.{Bool, true, false, cond}
 use mathlib.Core.Logic.{⊎-elim}
 use mathlib.Core.List.{List, [], _∷_}
-use native.Mathlib.Nat.{not-suc-le-zero}
+use native.Mathlib.Nat.{not-suc-le-zero, add-mul}
 use native.Mathlib.Omega.{arith}
 use lib.Dec.{eqb, ltb}
 use lib.ListN.{length}
@@ -14,20 +15,41 @@ use Rattle.laws.specs.Tests.{both-left, both-right}
 use Rattle.laws.specs.Lists.{below-suc}
 
 -- f 0 + f 1 + .. + f (n - 1)
-total : ℕ → (ℕ → ℕ) → ℕ
+unfoldable pub total : ℕ → (ℕ → ℕ) → ℕ
 total zero f = 0
 total (suc n) f = total n f + f n
 
 -- sums of 0, and of sums
-total-zero : (n : ℕ) → total n (λ k. 0) ≡ 0
+pub total-zero : (n : ℕ) → total n (λ k. 0) ≡ 0
 unfolding total
 total-zero zero = refl
 total-zero (suc n) = omega (arith, total-zero n)
 
-total-add : (n : ℕ) (f g : ℕ → ℕ) → total n (λ k. f k + g k) ≡ total n f + total n g
+pub total-add : (n : ℕ) (f g : ℕ → ℕ) → total n (λ k. f k + g k) ≡ total n f + total n g
 unfolding total
 total-add zero f g = refl
 total-add (suc n) f g = omega (arith, total-add n f g)
+
+-- two sums of the same numbers, and a sum of smaller ones
+pub total-same : (n : ℕ) (f g : ℕ → ℕ) → ((k : ℕ) → k < n → f k ≡ g k) → total n f ≡ total n g
+unfolding total
+total-same zero f g h = refl
+total-same (suc n) f g h = ap₂ _+_ (total-same n f g (λ k l. h k (omega arith))) (h n (omega arith))
+
+pub total-smaller : (n : ℕ) (f g : ℕ → ℕ) → ((k : ℕ) → k < n → f k ≤ g k) → total n f ≤ total n g
+unfolding total
+total-smaller zero f g h = omega arith
+total-smaller (suc n) f g h = omega (arith, total-smaller n f g (λ k l. h k (omega arith)), h n (omega arith))
+
+-- m for each number that passes a test
+pub total-scaled : (n : ℕ) (b : ℕ → Bool) (m : ℕ) → total n (λ k. cond (b k) m 0) ≡ total n (λ k. cond (b k) 1 0) * m
+unfolding total
+total-scaled zero b m = omega arith
+total-scaled (suc n) b m = go (b n) (total n (λ k. cond (b k) m 0)) (total n (λ k. cond (b k) 1 0)) (total-scaled n b m)
+  where
+    go : (d : Bool) (x y : ℕ) → x ≡ y * m → x + cond d m 0 ≡ (y + cond d 1 0) * m
+    go true x y e = rw e (sym (add-mul y 1 m ∙ omega arith))
+    go false x y e = rw e (omega arith)
 
 -- x itself, counted among the numbers below n
 total-past : (n x : ℕ) → n ≤ x → total n (λ k. cond (eqb x k) 1 0) ≡ 0
@@ -35,7 +57,7 @@ unfolding total
 total-past zero x l = refl
 total-past (suc n) x l = rw (ne-eqb x n (λ e. omega arith)) (omega (arith, total-past n x (omega arith)))
 
-total-one : (n x : ℕ) → x < n → total n (λ k. cond (eqb x k) 1 0) ≡ 1
+pub total-one : (n x : ℕ) → x < n → total n (λ k. cond (eqb x k) 1 0) ≡ 1
 unfolding total
 total-one zero x l = absurd (not-suc-le-zero l)
 total-one (suc n) x l =

@@ -8,7 +8,7 @@ use mathlib.Core.List.{List, [], _∷_, _++_}
 use native.Mathlib.Omega.{arith}
 use lib.Dec.{eqb, ltb, leb}
 use lib.ListN.{length, getD, take, drop}
-use borrow.Author.Tests.{eqb-true, eq-eqb, ne-eqb, leb-true, not-true}
+use borrow.Author.Tests.{eqb-true, eq-eqb, ne-eqb, leb-true, ltb-true, not-true}
 use Rattle.protocol.specs.Lists.{table, tableFrom}
 use Rattle.protocol.specs.State.{maxEvents, emptyState, statusAt}
 use Rattle.protocol.specs.Check.{Check, given, firstOf}
@@ -25,7 +25,7 @@ use Rattle.laws.specs.Lists.{getD-table}
 
 -- ---- tests: what the proofs below need of them
 
-eqb-sym : (n m : ℕ) → eqb n m ≡ eqb m n
+pub eqb-sym : (n m : ℕ) → eqb n m ≡ eqb m n
 eqb-sym n m = go (same? n m)
   where
     go : Same n m → eqb n m ≡ eqb m n
@@ -212,6 +212,24 @@ done-exactly s e =
     ∙ three-groups (inRange s) (not (noAction e)) (not (noSite s e)) (not (noTransaction s e)) (not (illFilled (s .sites) e))
     (allowed s e) on (allowed-enabled s e)))
     (all-three (inRange s) (wellFormed s e) on)
+
+-- an event that is done is about a site and a transaction that there are, and the figure enables its action
+pub record Doable (s : State) (e : Event) : Type 0 where
+  pub site : e .site < s .sites
+  pub txn : e .txn < s .count
+  pub on : enabled (actionOf e) s (e .site) (e .txn) ≡ true
+
+pub doable : (s : State) (e : Event) → answer s e ≡ 0 → Doable s e
+unfolding wellFormed noSite noTransaction
+doable s e h =
+    let a = done-exactly s e .0 h in
+    let b = simp Bool·not-not at (both-right (not (noAction e)) _ (a .1)) in
+    let c = both-right (ltb (e .site) (s .sites)) _ b in
+    record {
+      site = ltb-true (e .site) (s .sites) (both-left _ _ b);
+      txn = ltb-true (e .txn) (s .count) (both-left _ (not (illFilled s e)) c);
+      on = a .2;
+    }
 
 -- ---- what an event returns
 

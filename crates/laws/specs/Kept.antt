@@ -4,8 +4,10 @@ use mathlib.Core.Path.{_≡_, refl, sym, ap, ap₂, _∙_, fun-ext}
 use mathlib.Core.Bool.{cond, _&&_}
 use mathlib.Core.List.{List}
 use native.Mathlib.Omega.{arith}
+use lib.Dec.{ltb}
 use lib.ListN.{getD, set}
 use lib.Seq.{getD-set-same, getD-set-other}
+use borrow.Author.Tests.{ltb-true}
 use Rattle.sets.specs.Set.{has, none}
 use Rattle.protocol.specs.State.{maxSites, rowAt, placeAt, txnAt, txnIn, noRow, noPlace, noTxn, withRow, withPlaces, withPlace, withTxn, withChannel}
 use Rattle.protocol.specs.Setup.{sitesFine, countFine, homesFine, prioritiesDiffer}
@@ -16,7 +18,8 @@ use Rattle.protocol.specs.declared.Row.{Row}
 use Rattle.protocol.specs.declared.Place.{Place}
 use Rattle.protocol.specs.declared.Txn.{Txn}
 use Rattle.protocol.specs.declared.State.{State}
-use Rattle.laws.specs.Tests.{Same, same, other, same?}
+use Rattle.laws.specs.Tests.{Same, same, other, same?, both-left, both-right}
+use Rattle.laws.specs.Lists.{all-at}
 use Rattle.laws.specs.Read.{cond-keeps, set-keeps, each-keeps}
 use Rattle.laws.specs.Shape.{TxnShaped, Shaped}
 use Rattle.laws.specs.State.{site-shaped, txn-shaped, delivered-shaped}
@@ -50,6 +53,14 @@ pub site-stands : {s : State} → Fine s → (i : ℕ) → i < s .sites
 site-stands {s} f i h =
     let l : i < maxSites = omega (arith, sites-fit s (f .ranged .table)) in
     record { row = f .shaped .row i l; place = f .shaped .place i l; fine = f .ranged .site i h }
+
+-- every home is a site
+pub home-fits : (s : State) → Fine s → (t : ℕ) → t < s .count → txnAt s t .home < s .sites
+unfolding tableFine homesFine
+home-fits s f t ht =
+    let rest = both-right (countFine (s .count)) _ (both-right (sitesFine (s .sites)) _ (f .ranged .table)) in
+    ltb-true (txnAt s t .home) (s .sites)
+    (all-at (s .count) (λ t. ltb (txnAt s t .home) (s .sites)) t (both-left _ _ rest) ht)
 
 -- of the other transactions a site asks only their homes
 homed : {sites n : ℕ} {xs : List Txn} {i : ℕ} {r : Row} {p : Place} (xs′ : List Txn) → SiteFine sites n xs i r p

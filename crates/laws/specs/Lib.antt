@@ -1,4 +1,6 @@
 pub mod Tests
+pub mod Compare
+pub mod Keep
 pub mod Lists
 pub mod Read
 pub mod Count
@@ -9,7 +11,9 @@ pub mod Scan
 pub mod Scanned
 pub mod State
 pub mod InRange
+pub mod Members
 pub mod Site
+pub mod Held
 pub mod Kept
 pub mod ScanKept
 pub mod Actions

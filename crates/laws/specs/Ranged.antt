@@ -1,30 +1,32 @@
 -- Every event keeps a state in range, and so does every list of events.
 use mathlib.Core.Path.{_≡_}
-use mathlib.Core.Bool.{true, not, Bool·not-not}
+use mathlib.Core.Bool.{true}
 use mathlib.Core.List.{List, [], _∷_}
-use lib.Dec.{ltb}
-use borrow.Author.Tests.{ltb-true}
 use Rattle.protocol.specs.Range.{inRange}
-use Rattle.protocol.specs.Answer.{actionOf, noAction, noSite, noTransaction, illFilled, answer, done, step}
+use Rattle.protocol.specs.Answer.{actionOf, answer, done, step}
 use Rattle.protocol.specs.Run.{stateAfter}
 use Rattle.protocol.specs.declared.Event.{Event}
 use Rattle.protocol.specs.declared.State.{State}
-use Rattle.laws.specs.Tests.{Same, same, other, same?, both-left, both-right}
+use Rattle.laws.specs.Tests.{Same, same, other, same?}
 use Rattle.laws.specs.Shape.{Shaped}
 use Rattle.laws.specs.InRange.{range-out, range-in}
 use Rattle.laws.specs.Kept.{Fine}
 use Rattle.laws.specs.Actions.{effect-fine}
-use Rattle.laws.specs.Enabled.{wellFormed, done-exactly, step-done, step-refused}
+use Rattle.laws.specs.Enabled.{done-exactly, doable, step-done, step-refused}
 
--- an event that is done has its action enabled, of a site and a transaction that there are
+-- an event that is done keeps a state in range
 done-fine : (s : State) (e : Event) → Fine s → answer s e ≡ 0 → Fine (done s e .state)
-unfolding done wellFormed noSite noTransaction
+unfolding done
 done-fine s e f h =
+<<<<<<< HEAD
     let a = done-exactly s e .0 h in
     let b = simp Bool·not-not at (both-right (not (noAction e)) _ (a .1)) in
     let c = both-right (ltb (e .site) (s .sites)) _ b in
     effect-fine s (e .site) (e .txn) f (ltb-true (e .site) (s .sites) (both-left _ _ b))
     (ltb-true (e .txn) (s .count) (both-left _ (not (illFilled (s .sites) e)) c)) (actionOf e) (a .2)
+=======
+    let d = doable s e h in effect-fine s (e .site) (e .txn) f (d .site) (d .txn) (actionOf e) (d .on)
+>>>>>>> 1e7acbf (One copy: demand 3 and the message bound, proved)
 
 -- an event that is done finds the state in range, and a refused one leaves it as it is; so what a state in range has is
 -- kept

@@ -8,10 +8,10 @@ use native.Mathlib.Omega.{arith}
 use lib.Dec.{eqb, ltb}
 use borrow.Author.Tests.{ne-eqb}
 use Rattle.sets.specs.Set.{width, has, without, those}
-use Rattle.sets.specs.Laws.{has-none, has-union, has-those, has-with-other, has-without-same, overlap-out}
+use Rattle.sets.specs.Laws.{has-none, has-those, has-with-other, has-without-same}
 use Rattle.protocol.specs.Lists.{storeAt}
 use Rattle.protocol.specs.State.{maxTxns, idle, blocked, precommit, committed, aborted, statusIn, txnIn, txnAt, placeAt}
-use Rattle.protocol.specs.Database.{executes, heldReads, heldWrites, held, conflictsWith, conflicts}
+use Rattle.protocol.specs.Database.{executes, conflicts}
 use Rattle.protocol.specs.Channel.{homedAt, readyHome}
 use Rattle.protocol.specs.Scan.{waits, asked, submits, scanAll, scanFrom, scanLeaves, scan}
 use Rattle.protocol.specs.declared.Message.the-variants.{Ready, Abort}
@@ -20,21 +20,13 @@ use Rattle.protocol.specs.declared.Log.{Log}
 use Rattle.protocol.specs.declared.Txn.{Txn}
 use Rattle.protocol.specs.declared.Scan.{Scan}
 use Rattle.protocol.specs.declared.State.{State}
-use Rattle.laws.specs.Tests.{Test, yes-so, not-so, test, both-left, both-right}
+use Rattle.laws.specs.Tests.{both-left, both-right}
 use Rattle.laws.specs.Read.{some-keeps}
 use Rattle.laws.specs.InRange.{Below, in-none, below-none, below-union, below-with, below-those, below-lt, in-without, in-with, QueueFine, StatusesFine, LogFine, count-fits}
 use Rattle.laws.specs.Site.{Moved, set-moved, moved-log, queue-kept, queue-apart, with-waiting}
+use Rattle.laws.specs.Held.{conflict-executes}
 use Rattle.laws.specs.Kept.{Fine, site-stands, site-anew, delivered-fine, multicast-fine}
 use Rattle.laws.specs.Scan.{Lasts, scan-one, scan-keeps, scan-shaped}
-
--- who holds an object executes
-held-executes : (x : Txn) (i v k : ℕ) → has (held x i v) k ≡ true → executes v ≡ true
-unfolding held heldReads heldWrites
-held-executes x i v k h = go (test (executes v))
-  where
-    go : Test (executes v) → executes v ≡ true
-    go (yes-so e) = e
-    go (not-so e) = absurd (false≢true (simp (e, has-union, has-none) at h))
 
 -- the statuses r where each conflict of t is aborted
 abbrev killed : ℕ → List Txn → ℕ → Row → ℕ → Row
@@ -44,23 +36,22 @@ killed n xs i r t = record { status = storeAt (conflicts n xs i r t) aborted (r 
 module _ (n : ℕ) (xs : List Txn) (i : ℕ) (l : Log) where
   -- what holds at the start and after every turn: the statuses and the log are fine; those that are left and those that
   -- wait are queued as before, and are not the same; and messages are about transactions of the table
-  record Scanning (c : Scan) : Type 0 where
-    statuses : StatusesFine n (c .row)
-    log : LogFine n (c .row) l
-    rest : QueueFine n xs i (c .row) (c .rest)
-    waiting : QueueFine n xs i (c .row) (c .waiting)
-    apart : (u : ℕ) → has (c .rest) u ≡ true → has (c .waiting) u ≡ false
-    aborts : Below n (c .aborts)
-    readies : Below n (c .readies)
+  pub record Scanning (c : Scan) : Type 0 where
+    pub statuses : StatusesFine n (c .row)
+    pub log : LogFine n (c .row) l
+    pub rest : QueueFine n xs i (c .row) (c .rest)
+    pub waiting : QueueFine n xs i (c .row) (c .waiting)
+    pub apart : (u : ℕ) → has (c .rest) u ≡ true → has (c .waiting) u ≡ false
+    pub aborts : Below n (c .aborts)
+    pub readies : Below n (c .readies)
 
   -- a conflict executes, so it has no status w with which a transaction does not
   conflict-not : (w : ℕ) → executes w ≡ false → (r : Row) (t u : ℕ) → has (conflicts n xs i r t) u ≡ true
       → statusIn r u ≡ w → ⊥
-  unfolding conflicts conflictsWith
+  unfolding conflicts
   conflict-not w idles r t u h e =
-      let clash = both-right (not (eqb u t)) _ (both-right (ltb u n) _ (rw has-those at h)) in
-      let k = overlap-out (held (txnIn xs u) i (statusIn r u)) (txnIn xs t .writes) clash in
-      false≢true (sym idles ∙ rw e at (held-executes (txnIn xs u) i (statusIn r u) (k .0) (k .1)))
+      let hit = both-right (not (eqb u t)) _ (both-right (ltb u n) _ (rw has-those at h)) in
+      false≢true (sym idles ∙ rw e at (conflict-executes (txnIn xs t) (txnIn xs u) i (statusIn r u) hit))
 
   -- what is read of the statuses where the conflicts of t are aborted
   killed-at : (P : ℕ → Type 0) (r : Row) (t u : ℕ) → (has (conflicts n xs i r t) u ≡ true → P aborted)
@@ -94,7 +85,7 @@ module _ (n : ℕ) (xs : List Txn) (i : ℕ) (l : Log) where
   asked-below r t = below-those n (λ u. has (conflicts n xs i r t) u && eqb (statusIn r u) precommit)
 
   -- every turn keeps all this
-  scanning : Lasts n xs i Scanning
+  pub scanning : Lasts n xs i Scanning
   unfolding waits submits
   scanning c t b h k =
       scan-one n xs i Scanning c t
@@ -139,30 +130,39 @@ ready-home-fine i ts s f h b =
     delivered-fine (Ready i) (homedAt (s .txns) ts) s f h (λ j u m.
     b u (both-left _ (eqb (txnAt s u .home) j) (both-right (ltb u maxTxns) _ (sym (has-those maxTxns _ u) ∙ m))))
 
+-- it holds when a scan begins at site i, whose queue fits the width
+pub scanning-first : (s : State) (i : ℕ) → Fine s → i < s .sites
+    → (placeAt s i .queue < 2 ^ width) × Scanning (s .count) (s .txns) i (placeAt s i .log) (scanFrom s i)
+scanning-first s i f hi =
+    let here = site-stands f i hi in
+    let n : ℕ = s .count in (
+      below-lt n (placeAt s i .queue) (count-fits s (f .ranged .table)) (λ u m. here .fine .queue u m .known),
+      record {
+        statuses = here .fine .statuses;
+        log = here .fine .log;
+        rest = here .fine .queue;
+        waiting = λ u m. absurd (in-none u m);
+        apart = λ u m. has-none u;
+        aborts = below-none n;
+        readies = below-none n;
+      },
+    )
+
 -- a scan at site i keeps a state in range
 pub scan-fine : (s : State) (i : ℕ) → Fine s → i < s .sites → Fine (scan s i .state)
 unfolding scan scanLeaves
 scan-fine s i f hi =
     let here = site-stands f i hi in
     let n : ℕ = s .count in
-    let fits : placeAt s i .queue < 2 ^ width =
-    below-lt n (placeAt s i .queue) (count-fits s (f .ranged .table)) (λ u m. here .fine .queue u m .known) in
+    let first = scanning-first s i f hi in
     let c : Scan = scanAll n (s .txns) i (scanFrom s i) in
     let end : Scanning n (s .txns) i (placeAt s i .log) c =
     scan-keeps n (s .txns) i (Scanning n (s .txns) i (placeAt s i .log)) (scanning n (s .txns) i (placeAt s i .log))
-    (scanFrom s i) fits (record {
-      statuses = here .fine .statuses;
-      log = here .fine .log;
-      rest = here .fine .queue;
-      waiting = λ u m. absurd (in-none u m);
-      apart = λ u m. has-none u;
-      aborts = below-none n;
-      readies = below-none n;
-    }) in
+    (scanFrom s i) (first .0) (first .1) in
     ready-home-fine i (c .readies) _
     (multicast-fine Abort i (c .aborts) _
     (site-anew s i f hi
-    (with-waiting here (c .waiting) false (scan-shaped n (s .txns) i (scanFrom s i) fits (here .row)) (end .statuses)
+    (with-waiting here (c .waiting) false (scan-shaped n (s .txns) i (scanFrom s i) (first .0) (here .row)) (end .statuses)
     (end .log) (end .waiting)))
     tt (end .aborts))
     hi (end .readies)

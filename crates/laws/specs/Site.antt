@@ -87,44 +87,48 @@ not-queued q t f h = go (has q t) refl
 
 -- ---- the log
 
--- t commits that had not: the log has room for it, since it holds others only and each once
-log-appended : (n : ℕ) (r : Row) (l : Log) (t : ℕ) → n ≤ maxTxns → length (r .status) ≡ maxTxns
-    → length (l .entries) ≡ maxTxns → t < n → (statusIn r t ≡ committed → ⊥) → LogFine n r l
-    → LogFine n (rowWith r t committed) (appended l t)
-unfolding appended allOf times
-log-appended n r l t fits hr he h old f =
-    rw (lt-ltb (l .length) maxTxns room)
-    (record {
-      short = omega (arith, room);
-      known = rw grown (all-append (λ u. ltb u n) (entriesOf l) (t ∷ []) (f .known) (both _ _ (lt-ltb t n h) refl));
-      once = λ u m. rw grown (times-append u (entriesOf l) (t ∷ []) ∙ counted u m (same? u t));
-    })
-  where
-    at-most : (b : Bool) → cond b 1 0 ≤ 1
-    at-most true = omega arith
-    at-most false = omega arith
+-- t commits that had not, so that the log holds others only and each once
+module _ (n : ℕ) (r : Row) (l : Log) (t : ℕ) (fits : n ≤ maxTxns) (he : length (l .entries) ≡ maxTxns) (h : t < n)
+    (old : statusIn r t ≡ committed → ⊥) (f : LogFine n r l) where
+  none-yet : times t (entriesOf l) ≡ 0
+  none-yet = f .once t h ∙ ap (λ (b : Bool). cond b 1 0) (ne-eqb (statusIn r t) committed old)
 
-    none-yet : times t (entriesOf l) ≡ 0
-    none-yet = f .once t h ∙ ap (λ (b : Bool). cond b 1 0) (ne-eqb (statusIn r t) committed old)
+  -- it has room for t
+  log-room : l .length < maxTxns
+  log-room =
+      omega (
+        arith,
+        length-take-le (l .length) (l .entries) (omega (arith, f .short)),
+        short-of n (entriesOf l) t (f .known)
+            (λ u m. subst (λ (k : ℕ). k ≤ 1) (sym (f .once u m)) (at-most (eqb (statusIn r u) committed))) h none-yet,
+      )
+    where
+      at-most : (b : Bool) → cond b 1 0 ≤ 1
+      at-most true = omega arith
+      at-most false = omega arith
 
-    room : l .length < maxTxns
-    room =
-        omega (
-          arith,
-          length-take-le (l .length) (l .entries) (omega (arith, f .short)),
-          short-of n (entriesOf l) t (f .known)
-              (λ u m. subst (λ (k : ℕ). k ≤ 1) (sym (f .once u m)) (at-most (eqb (statusIn r u) committed))) h none-yet,
-        )
+  -- and then holds t at its end
+  pub log-grown : entriesOf (appended l t) ≡ entriesOf l ++ (t ∷ [])
+  unfolding appended
+  log-grown =
+      rw (lt-ltb (l .length) maxTxns log-room, add-one)
+      (take-suc-set (l .entries) (l .length) t (omega (arith, log-room)))
 
-    grown : take (l .length + 1) (set (l .entries) (l .length) t) ≡ entriesOf l ++ (t ∷ [])
-    grown = rw add-one (take-suc-set (l .entries) (l .length) t (omega (arith, room)))
-
-    counted : (u : ℕ) → u < n → Same u t
-        → times u (entriesOf l) + (cond (eqb t u) 1 0 + 0) ≡ cond (eqb (statusIn (rowWith r t committed) u) committed) 1 0
-    counted u m (same e) =
-        rw (e, none-yet, eq-eqb t t refl, getD-set-same (r .status) t committed idle (omega arith))
-    counted u m (other d) =
-        rw (getD-set-other (r .status) t u committed idle d, ne-eqb t u (λ e. d (sym e))) (omega (arith, f .once u m))
+  -- so it stays fine
+  log-appended : length (r .status) ≡ maxTxns → LogFine n (rowWith r t committed) (appended l t)
+  unfolding appended allOf times
+  log-appended hr = record {
+    short = rw (lt-ltb (l .length) maxTxns log-room) (omega (arith, log-room));
+    known = rw log-grown (all-append (λ u. ltb u n) (entriesOf l) (t ∷ []) (f .known) (both _ _ (lt-ltb t n h) refl));
+    once = λ u m. rw log-grown (times-append u (entriesOf l) (t ∷ []) ∙ counted u m (same? u t));
+  }
+    where
+      counted : (u : ℕ) → u < n → Same u t
+          → times u (entriesOf l) + (cond (eqb t u) 1 0 + 0) ≡ cond (eqb (statusIn (rowWith r t committed) u) committed) 1 0
+      counted u m (same e) =
+          rw (e, none-yet, eq-eqb t t refl, getD-set-same (r .status) t committed idle (omega arith))
+      counted u m (other d) =
+          rw (getD-set-other (r .status) t u committed idle d, ne-eqb t u (λ e. d (sym e))) (omega (arith, f .once u m))
 
 -- the room of the log stays as it is
 log-length : (l : Log) (t : ℕ) → length (appended l t .entries) ≡ length (l .entries)
@@ -260,6 +264,6 @@ module _ {sites n : ℕ} {xs : List Txn} {i : ℕ} {r : Row} {p : Place} (k : Si
           some-keeps (λ (v : ℕ). v ≤ n) (has writes) (λ o v. t + 1) (p .versions) o 0 (λ e. omega arith)
           (k .fine .versions o l);
       queue = queue-apart n xs i r (p .queue) t committed (k .fine .queue) out;
-      log = log-appended n r (p .log) t fits (k .row .status) (k .place .entries) h old (k .fine .log);
+      log = log-appended n r (p .log) t fits (k .place .entries) h old (k .fine .log) (k .row .status);
     };
   }

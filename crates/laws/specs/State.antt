@@ -1,11 +1,12 @@
 -- The changes of which every action is made keep the lengths of a state: other contents for one site, other contents for
 -- one transaction, messages delivered.
-use Prim.Native.Nat.{ℕ}
+use Prim.Native.Nat.{ℕ, _<_}
 use mathlib.Core.Path.{_≡_, refl, _∙_}
 use mathlib.Core.Bool.{cond}
 use lib.ListN.{length, length-set}
+use lib.Seq.{set-getD}
 use Rattle.sets.specs.Set.{has, with}
-use Rattle.protocol.specs.State.{noRow, noPlace, noTxn, withRow, withPlace, withPlaces, withTxn, withChannel}
+use Rattle.protocol.specs.State.{maxSites, noRow, noPlace, noTxn, rowAt, placeAt, rowWith, withRow, withStatus, withPlace, withPlaces, withTxn, withChannel}
 use Rattle.protocol.specs.Channel.{readyWith, put, delivered}
 use Rattle.protocol.specs.declared.Message.{Message}
 use Rattle.protocol.specs.declared.Message.the-variants.{Remote, Ready, Commit, Abort}
@@ -29,6 +30,16 @@ site-shaped s i r p h hr hp = record {
   txns = h .txns;
   txn = h .txn;
 }
+
+-- site i gets the contents p; and t takes the status v there
+pub place-shaped : (s : State) (i : ℕ) (p : Place) → Shaped s → i < maxSites → PlaceShaped p → Shaped (withPlace s i p)
+place-shaped s i p h l k = rw (set-getD (s .rows) i noRow) at (site-shaped s i (rowAt s i) p h (h .row i l) k)
+
+pub status-shaped : (s : State) (i t v : ℕ) → Shaped s → i < maxSites → Shaped (withStatus s i t v)
+status-shaped s i t v h l =
+    rw (set-getD (s .places) i noPlace) at
+    (site-shaped s i (rowWith (rowAt s i) t v) (placeAt s i) h
+    (record { status = length-set (rowAt s i .status) t v ∙ h .row i l .status }) (h .place i l))
 
 -- transaction t gets the contents x
 pub txn-shaped : (s : State) (t : ℕ) (x : Txn) → Shaped s → TxnShaped x → Shaped (withTxn s t x)
