@@ -227,7 +227,7 @@ doable s e h =
     let c = both-right (ltb (e .site) (s .sites)) _ b in
     record {
       site = ltb-true (e .site) (s .sites) (both-left _ _ b);
-      txn = ltb-true (e .txn) (s .count) (both-left _ (not (illFilled s e)) c);
+      txn = ltb-true (e .txn) (s .count) (both-left _ (not (illFilled (s .sites) e)) c);
       on = a .2;
     }
 

@@ -18,15 +18,7 @@ use Rattle.laws.specs.Enabled.{done-exactly, doable, step-done, step-ref
 done-fine : (s : State) (e : Event) → Fine s → answer s e ≡ 0 → Fine (done s e .state)
 unfolding done
 done-fine s e f h =
-<<<<<<< HEAD
-    let a = done-exactly s e .0 h in
-    let b = simp Bool·not-not at (both-right (not (noAction e)) _ (a .1)) in
-    let c = both-right (ltb (e .site) (s .sites)) _ b in
-    effect-fine s (e .site) (e .txn) f (ltb-true (e .site) (s .sites) (both-left _ _ b))
-    (ltb-true (e .txn) (s .count) (both-left _ (not (illFilled (s .sites) e)) c)) (actionOf e) (a .2)
-=======
     let d = doable s e h in effect-fine s (e .site) (e .txn) f (d .site) (d .txn) (actionOf e) (d .on)
->>>>>>> 1e7acbf (One copy: demand 3 and the message bound, proved)
 
 -- an event that is done finds the state in range, and a refused one leaves it as it is; so what a state in range has is
 -- kept
