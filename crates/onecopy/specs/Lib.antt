@@ -16,4 +16,3 @@ pub mod Costs
 pub mod Run
 pub mod Fresh
 pub mod Theorem
-pub mod Examples

@@ -1,7 +1,13 @@
 -- The claims of Statements.antt, proved: of every state that a run comes to from an accepted setup, and of what a run
 -- returns.
 use Rattle.onecopy.specs.Words.{ℕ, _+_, _*_, _-_, _≤_, _<_, _≡_, refl, sym, _∙_, Bool, true, false, cond, _&&_, or-true, _≢_, ⊎-elim, List, [], _∷_, _++_, zero-add, arith, eqb, ltb, lt-ltb, ltb-true, eqb-true, eqb-false, not-true, has, none, idle, active, precommit, committed, aborted, statusAt, placeAt, txnAt, atHome, setupAnswer, setup, scanFrom, others, only, actionOf, stateAfter, sentBy, runAnswer, run, Message, Remote, Ready, Commit, Abort, Action, Create, BeginOperation, EndOperation, BeginCommit, EndCommit, LocalAbort, Receive, ExecuteRemote, Discard, Entry, Event, State, both-left, both-right, sites-fit, count-fits, in-none, total-same, total-smaller, has-only, has-others, site-stands, home-fits, scan-parts, scan-asks, scanned, scanning-first, doable, run-done, Cmp, cmp, clash, same, other}
+use mathlib.Core.Path.{ap}
 use Rattle.protocol.specs.Channel.{lies}
+use Rattle.protocol.specs.Run.{eventsOf}
+use Rattle.protocol.specs.declared.Ran.{Ran}
+use Rattle.laws.specs.Tests.{Same, same?}
+use Rattle.laws.specs.Tests as tests
+use Rattle.laws.specs.Enabled.{run-refused}
 use Rattle.protocol.specs.Figure.{enabled}
 use Rattle.onecopy.specs.Statements.{In, listed, writesOf, ranOn, replay, Sendings, nothing, sendings, sends, cost, OneFate, SerialCopies, OneCopy}
 use Rattle.onecopy.specs.Histories.{replay-last, in-order, lag-last}
@@ -228,3 +234,17 @@ pub run-one-copy : (sites : ℕ) (table : List Entry) → setupAnswer sites tabl
     → OneCopy (setup sites table .state) es (run (setup sites table .state) es room .sent)
     (run (setup sites table .state) es room .state)
 run-one-copy sites table z es room done = rw (run-done (setup sites table .state) es room done) (one-copy sites table z es)
+
+-- .. and so of what the code returns, whose promise is that it is what `run` says
+pub returned-one-copy : (sites : ℕ) (table : List Entry) → setupAnswer sites table ≡ 0 → (numbers : List ℕ) (room : ℕ)
+    (r : Ran) → r ≡ run (setup sites table .state) (eventsOf numbers) room → r .answer ≡ 0
+    → OneCopy (setup sites table .state) (eventsOf numbers) (r .sent) (r .state)
+returned-one-copy sites table z numbers room r e a =
+    rw e (run-one-copy sites table z (eventsOf numbers) room (go (same? (runAnswer s₀ (eventsOf numbers) room) 0)))
+  where
+    s₀ : State
+    s₀ = setup sites table .state
+
+    go : Same (runAnswer s₀ (eventsOf numbers) room) 0 → runAnswer s₀ (eventsOf numbers) room ≡ 0
+    go (tests.same h) = h
+    go (tests.other n) = absurd (n (sym (ap (λ (x : Ran). x .answer) (e ∙ run-refused s₀ (eventsOf numbers) room n)) ∙ a))
