@@ -40,7 +40,7 @@ use protocol::Stepped;
 use protocol::TOO_MANY_EVENTS;
 
 // What the number of an event asks for.
-pub enum Asked {
+pub(crate) enum Asked {
     Known(Action),
     Unknown,
 }
