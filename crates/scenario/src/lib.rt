@@ -23,3 +23,6 @@ pub struct Reading {
     pub count: u32,
     pub events: u32,
 }
+
+pub mod reader;
+pub(crate) mod report;
