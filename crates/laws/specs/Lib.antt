@@ -19,3 +19,4 @@ pub mod ScanKept
 pub mod Actions
 pub mod Begun
 pub mod Ranged
+pub mod Runs

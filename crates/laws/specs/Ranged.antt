@@ -1,5 +1,5 @@
--- Every event keeps a state in range, and so does every list of events.
-use mathlib.Core.Path.{_≡_}
+-- Every event keeps a state in range and its counts, and so does every list of events.
+use mathlib.Core.Path.{_≡_, refl, _∙_}
 use mathlib.Core.Bool.{true}
 use mathlib.Core.List.{List, [], _∷_}
 use Rattle.protocol.specs.Range.{inRange}
@@ -11,7 +11,7 @@ use Rattle.laws.specs.Tests.{Same, same, other, same?}
 use Rattle.laws.specs.Shape.{Shaped}
 use Rattle.laws.specs.InRange.{range-out, range-in}
 use Rattle.laws.specs.Kept.{Fine}
-use Rattle.laws.specs.Actions.{effect-fine}
+use Rattle.laws.specs.Actions.{effect-fine, effect-counts}
 use Rattle.laws.specs.Enabled.{done-exactly, doable, step-done, step-refused}
 
 -- an event that is done keeps a state in range
@@ -47,3 +47,21 @@ pub after-ranged : (s : State) (es : List Event) → Shaped s → inRange s ≡ 
 unfolding stateAfter
 after-ranged s [] h r = (h, r)
 after-ranged s (e ∷ es) h r = after-ranged (step s e .state) es (step-shaped s e h) (step-ranged s e h r)
+
+-- every event keeps the counts
+pub step-counts : (s : State) (e : Event) → (step s e .state .sites ≡ s .sites) × (step s e .state .count ≡ s .count)
+step-counts s e = go (same? (answer s e) 0)
+  where
+    go : Same (answer s e) 0 → (step s e .state .sites ≡ s .sites) × (step s e .state .count ≡ s .count)
+    go (same z) = rw (step-done s e z) (unfold done in (effect-counts (actionOf e) s (e .site) (e .txn)))
+    go (other n) = rw (step-refused s e n) (refl, refl)
+
+-- and so does every list of events
+pub after-counts : (s : State) (es : List Event)
+    → (stateAfter s es .sites ≡ s .sites) × (stateAfter s es .count ≡ s .count)
+unfolding stateAfter
+after-counts s [] = (refl, refl)
+after-counts s (e ∷ es) =
+    let first = step-counts s e in
+    let rest = after-counts (step s e .state) es in
+    (rest .0 ∙ first .0, rest .1 ∙ first .1)

@@ -1,7 +1,8 @@
 -- Every action that is enabled, and so every event and every list of events, refused ones among them, keeps the invariant
 -- with L and the costs of the run so far.
-use Rattle.onecopy.specs.Words.{ℕ, _+_, _<_, _≡_, refl, sym, ap, ap₂, _∙_, fun-ext, subst, Bool, true, false, not, cond, _&&_, _||_, List, [], _∷_, _++_, append-nil, append-assoc, arith, eqb, eqb-true, eqb-false, not-true, eq-eqb, ne-eqb, width, has, none, isEmpty, size, has-none, size-none, idle, active, blocked, precommit, committed, aborted, txnAt, placeAt, atHome, withStatus, withTxn, ended, others, scanFrom, is, away, clashAt, only, Remote, Ready, Commit, Abort, Action, Create, BeginOperation, EndOperation, BeginCommit, EndCommit, LocalAbort, Receive, ExecuteRemote, Discard, State, Test, yes-so, not-so, test, both-left, both-right, add-zero, add-assoc, actionOf, answer, step, Event, total, total-zero, total-add, Below, below-none, below-with, sites-fit, count-fits, has-only, has-others, size-only, Fine, effect-fine, effect-counts, scan-keeps, scanned, Scanning, scanning, scanning-first, eqb-sym, doable, step-done, step-refused}
+use Rattle.onecopy.specs.Words.{ℕ, _+_, _<_, _≡_, refl, sym, ap, ap₂, _∙_, fun-ext, subst, Bool, true, false, not, cond, _&&_, _||_, List, [], _∷_, _++_, append-nil, append-assoc, arith, eqb, eqb-true, eqb-false, not-true, eq-eqb, ne-eqb, width, has, none, isEmpty, size, has-none, size-none, idle, active, blocked, precommit, committed, aborted, txnAt, placeAt, atHome, withStatus, withTxn, ended, others, scanFrom, is, away, clashAt, only, Remote, Ready, Commit, Abort, Action, Create, BeginOperation, EndOperation, BeginCommit, EndCommit, LocalAbort, Receive, ExecuteRemote, Discard, State, Test, yes-so, not-so, test, both-left, both-right, add-zero, add-assoc, actionOf, answer, step, Event, total, total-zero, total-add, Below, below-none, below-with, sites-fit, count-fits, has-only, has-others, size-only, Fine, effect-fine, scan-keeps, scanned, Scanning, scanning, scanning-first, eqb-sym, doable, step-done, step-refused}
 use Rattle.laws.specs.Tests.{Same, same, other, same?}
+use Rattle.laws.specs.Ranged.{step-counts}
 use Rattle.protocol.specs.Database.{woken, commitHere}
 use Rattle.protocol.specs.Channel.{lies}
 use Rattle.protocol.specs.Scan.{scan, scanLeaves}
@@ -246,13 +247,6 @@ module _ (s : State) (e : Event) where
           (unfold done in (acted s l costs r (e .site) (e .txn) (d .site) (d .txn) (actionOf e) (d .on)))
       go (other n) = simp (step-refused s e n, ne-eqb (answer s e) 0 n, append-nil, add-zero) r
 
-  step-count : step s e .state .count ≡ s .count
-  step-count = go (same? (answer s e) 0)
-    where
-      go : Same (answer s e) 0 → step s e .state .count ≡ s .count
-      go (same z) = rw (step-done s e z) (unfold done in (effect-counts (actionOf e) s (e .site) (e .txn) .1))
-      go (other n) = rw (step-refused s e n)
-
   step-sent : Fine s → step s e .sent ≡ total (s .count) (newCost s e)
   step-sent f = go (same? (answer s e) 0)
     where
@@ -282,10 +276,5 @@ unfolding sentBy cost
 ran-sent s [] l costs r = sym (total-zero (s .count))
 ran-sent s (e ∷ es) l costs r = ap₂ _+_ (step-sent s e (r .fine))
     (ran-sent (step s e .state) es _ _ (stepped s e l costs r)
-    ∙ ap (λ (n : ℕ). total n (cost (step s e .state) es)) (step-count s e))
+    ∙ ap (λ (n : ℕ). total n (cost (step s e .state) es)) (step-counts s e .1))
     ∙ sym (total-add (s .count) (newCost s e) (cost (step s e .state) es))
-
-pub after-count : (s : State) (es : List Event) → stateAfter s es .count ≡ s .count
-unfolding stateAfter
-after-count s [] = refl
-after-count s (e ∷ es) = after-count (step s e .state) es ∙ step-count s e

@@ -8,6 +8,7 @@ use Rattle.protocol.specs.declared.Ran.{Ran}
 use Rattle.laws.specs.Tests.{Same, same?}
 use Rattle.laws.specs.Tests as tests
 use Rattle.laws.specs.Enabled.{run-refused}
+use Rattle.laws.specs.Ranged.{after-counts}
 use Rattle.protocol.specs.Figure.{enabled}
 use Rattle.onecopy.specs.Statements.{In, listed, writesOf, ranOn, replay, Sendings, nothing, sendings, sends, cost, OneFate, SerialCopies, OneCopy}
 use Rattle.onecopy.specs.Histories.{replay-last, in-order, lag-last}
@@ -19,7 +20,7 @@ use Rattle.onecopy.specs.Logged.{Serial}
 use Rattle.onecopy.specs.Seen.{seen}
 use Rattle.onecopy.specs.Scan.{Turned, scan-turned}
 use Rattle.onecopy.specs.Costs.{total-rest}
-use Rattle.onecopy.specs.Run.{Reached, scanned-below, ran, ran-sent, after-count}
+use Rattle.onecopy.specs.Run.{Reached, scanned-below, ran, ran-sent}
 use Rattle.onecopy.specs.Fresh.{setup-reached}
 
 -- what one of a list noted is what those before it leave
@@ -222,7 +223,7 @@ one-copy sites table z es =
       log-once = λ i b. r .good .logged .log-once i;
       cost-committed = costs-committed s l _ r;
       cost-bound = costs-bound s l _ r;
-      cost-sum = rw (after-count s₀ es) (ran-sent s₀ es [] (λ u. 0) first);
+      cost-sum = rw (after-counts s₀ es .1) (ran-sent s₀ es [] (λ u. 0) first);
       no-doubles = λ e a m j u.
           let d = doable s e a in sends-new s l _ r (e .site) (e .txn) (d .site) (d .txn) (actionOf e) (d .on) m j u;
       aborted-quiet = λ j t b c e. quiet-there (seen s l (r .spent)) (r .good) j t b (see s l _ r j t aborted c e);

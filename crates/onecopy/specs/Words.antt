@@ -46,7 +46,7 @@ pub use Rattle.laws.specs.Compare.{Cmp, same, other, cmp, eqb-same, eqb-other, 
 pub use Rattle.laws.specs.Count.{total-zero, total-add, total-one, total-scaled, total, total-same, total-smaller}
 pub use Rattle.laws.specs.Begun.{setup-ranged}
 pub use Rattle.laws.specs.Keep.{put, keep, in-keep, keep-in, keep-ext, keep-yes, keep-no}
-pub use Rattle.laws.specs.Actions.{others-below, effect-fine, effect-counts}
+pub use Rattle.laws.specs.Actions.{others-below, effect-fine}
 pub use Rattle.laws.specs.Scan.{scan-keeps, Lasts, scan-one, scan-conflict, scan-ends, scan-parts, scan-asks}
 pub use Rattle.laws.specs.Scanned.{scanned}
 pub use Rattle.laws.specs.ScanKept.{Scanning, scanning, scanning-first}

@@ -8,18 +8,6 @@ use Rattle.protocol.specs.Run.{eventsOf}
 use Rattle.protocol.specs.declared.Event.{Event}
 use Rattle.rules.specs.Events.{eventAt}
 
--- as many as there are groups of seven
-pub events-length : (l : List ℕ) → length (eventsOf l) ≡ length l / 7
-unfolding eventsOf
-events-length [] = refl
-events-length (a ∷ []) = refl
-events-length (a ∷ i ∷ []) = refl
-events-length (a ∷ i ∷ t ∷ []) = refl
-events-length (a ∷ i ∷ t ∷ k ∷ []) = refl
-events-length (a ∷ i ∷ t ∷ k ∷ f ∷ []) = refl
-events-length (a ∷ i ∷ t ∷ k ∷ f ∷ r ∷ []) = refl
-events-length (a ∷ i ∷ t ∷ k ∷ f ∷ r ∷ w ∷ l) = let h = events-length l in omega arith
-
 -- past the first event the numbers are those after the first seven
 module _ (a i t k f r w : ℕ) (l : List ℕ) where
   past-seven : (x y : ℕ) → x ≡ suc (suc (suc (suc (suc (suc (suc y)))))) → getD (a ∷ i ∷ t ∷ k ∷ f ∷ r ∷ w ∷ l) x 0 ≡ getD l y 0

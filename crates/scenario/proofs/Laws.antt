@@ -12,7 +12,7 @@ use lib.ListN.{length, take, drop, getD, set, length-take, length-drop, length-s
 use lib.Seq.{sets, set-out, take-all}
 use Rattle.text.specs.Written.{bytes}
 use Rattle.text.specs.Line.{before, parts, starts, fieldsOf}
-use Rattle.text.specs.Laws.{parts-some, part-last, part-next}
+use Rattle.text.specs.Laws.{parts-some, parts-few, part-last, part-next}
 use Rattle.text.specs.declared.Number.{Number}
 use Rattle.text.specs.declared.Number.the-variants.{Is, Not}
 use Rattle.text.specs.declared.Fields.{Fields}
@@ -139,6 +139,21 @@ module _ (m : Reading) where
   moves Fault l = stays
 
 -- ---- the lines of a text
+
+-- the number of the line that is wanted, or at fault, is at most one more than there are lines
+lines-moves : (r : Read) (ls : List (List ℕ)) → allLines r ls .reading .line ≤ r .reading .line + length ls
+unfolding allLines nextLine faulted
+lines-moves r [] = omega arith
+lines-moves r ([] ∷ []) = omega arith
+lines-moves r ((b ∷ l) ∷ []) = omega arith
+lines-moves r ([] ∷ k ∷ ls) =
+    omega (arith, lines-moves (nextLine r []) (k ∷ ls), moves (r .reading) (r .reading .want) [] .line)
+lines-moves r ((b ∷ l) ∷ k ∷ ls) =
+    omega (arith, lines-moves (nextLine r (b ∷ l)) (k ∷ ls), moves (r .reading) (r .reading .want) (b ∷ l) .line)
+
+pub line-near : (hs ns t : List ℕ) → readInto hs ns t .reading .line ≤ length t + 2
+unfolding readInto begin
+line-near hs ns t = omega (arith, lines-moves (record { reading = begin; homes = hs; numbers = ns }) (parts 10 t), parts-few 10 t)
 
 -- what is left of the text, from `at` on, takes what has been read to what the whole gives
 pub record Step (hs ns t : List ℕ) (homes numbers : List ℕ) (m : Reading) (at : ℕ) : Type 0 where

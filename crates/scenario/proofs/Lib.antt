@@ -1,3 +1,5 @@
+pub mod Filling
 pub mod Laws
+pub mod Rehearsed
 pub mod Shape
 pub mod Writing

@@ -11,11 +11,11 @@ use denote.Array.{each}
 use denote.Struct.Declared as Declared
 use denote.Struct.Struct.{Struct}
 use borrow.Author.Needs.{length-unmapped}
-use Rattle.protocol.specs.State.{noPlace, placeAt, logOf}
+use Rattle.protocol.specs.State.{maxSites, maxTxns, maxEvents, noPlace, placeAt, logOf}
 use Rattle.protocol.specs.declared.State.{State}
 use Rattle.protocol.specs.declared.Place.{Place}
 use Rattle.text.specs.Written.{bytes}
-use Rattle.scenario.specs.Report.{lineOf, answerLines, siteLines}
+use Rattle.scenario.specs.Report.{reportRoom, lineOf, answerLines, siteLines}
 use Rattle.scenario.specs.Room.{report-length, report-room}
 use Rattle.protocol.proofs.State as state
 use Rattle.protocol.proofs.Place as place
@@ -43,9 +43,9 @@ log-fits s vs g i h =
     )
 
 -- the report of a run that ends in a state of at most eight sites and 32 transactions
-pub run-room : (l : List ℕ) (s : State) (m : ℕ) (vs : List Val) → Is state.the-row s vs → length l ≤ 1024
-    → s .sites ≤ 8 → s .count ≤ 32
-    → length (answerLines l) + (length (siteLines (s .sites) 0 s) + length (lineOf (bytes "messages=") m)) ≤ 24576
+pub run-room : (l : List ℕ) (s : State) (m : ℕ) (vs : List Val) → Is state.the-row s vs → length l ≤ maxEvents
+    → s .sites ≤ maxSites → s .count ≤ maxTxns
+    → length (answerLines l) + (length (siteLines (s .sites) 0 s) + length (lineOf (bytes "messages=") m)) ≤ reportRoom
 run-room l s m vs g a b c =
     omega (
       arith,

@@ -3,3 +3,7 @@ pub mod Report
 pub mod Samples
 pub mod Put
 pub mod Room
+pub mod Tables
+pub mod Commas
+pub mod Wanted
+pub mod RoundTrip

@@ -4,6 +4,7 @@ use mathlib.Core.Bool.{Bool, true, false, cond}
 use mathlib.Core.List.{List, [], _∷_, _++_}
 use lib.Dec.{eqb, ltb}
 use lib.ListN.{length, take}
+use lib.Seq.{sets}
 use Rattle.protocol.specs.State.{maxEvents, rowAt, placeAt, logOf}
 use Rattle.protocol.specs.Setup.{setupOf}
 use Rattle.protocol.specs.Run.{eventsOf, stateAfter, answersOf, sentBy}
@@ -12,10 +13,15 @@ use Rattle.protocol.specs.declared.Started.{Started}
 use Rattle.text.specs.Written.{bytes}
 use Rattle.text.specs.Decimal.{digits}
 use Rattle.scenario.specs.Format.{Read, readText, whole, entriesOf}
+use Rattle.scenario.specs.declared.Reported.{Reported}
 
 -- "up to 65,536 bytes"
 abbrev pub maxText : ℕ
 maxText = 65536
+
+-- so many bytes are enough for every report, by the longest decimals that could stand there (Room.antt)
+abbrev pub reportRoom : ℕ
+reportRoom = 24576
 
 -- a key, a decimal and a line feed
 unfoldable pub lineOf : List ℕ → ℕ → List ℕ
@@ -70,3 +76,12 @@ readReport r =
 -- the report of a text; "a longer input prints fault=0"
 unfoldable pub reportOf : List ℕ → List ℕ
 reportOf t = cond (ltb maxText (length t)) (lineOf (bytes "fault=") 0) (readReport (readText t))
+
+-- a report l for which there is room for so many bytes: its length, or 34 where the room is too little. 01 leaves the
+-- number open; it is that of a text for which a lent buffer is too short.
+unfoldable pub reported : List ℕ → ℕ → Reported
+reported l room = cond (ltb room (length l)) (record { answer = 34; length = 0 }) (record { answer = 0; length = length l })
+
+-- what the lent bytes then hold, where they held `old`
+unfoldable pub reportedIn : List ℕ → List ℕ → List ℕ
+reportedIn l old = cond (ltb (length old) (length l)) old (sets old 0 l)

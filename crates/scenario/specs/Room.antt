@@ -1,18 +1,33 @@
--- How long a report can be: what bytes suffice for it.
+-- How long a report can be: reportRoom bytes suffice for every text.
 use Prim.Native.Nat.{ℕ, zero, suc, _+_, _-_, _*_, _≤_, _<_}
 use mathlib.Core.Path.{_≡_, refl, sym, ap, _∙_}
+use mathlib.Core.Bool.{Bool, true, false, cond}
 use mathlib.Core.List.{List, [], _∷_, _++_, append-assoc, append-nil}
 use native.Mathlib.Omega.{arith}
+use lib.Dec.{eqb, ltb}
 use lib.ListN.{length, take, length-append, length-take}
-use Rattle.protocol.specs.State.{rowAt, placeAt, logOf}
+use borrow.Author.Tests.{ltb-false, eqb-true}
+use Rattle.protocol.specs.State.{maxSites, maxTxns, maxEvents, rowAt, placeAt, logOf}
+use Rattle.protocol.specs.Setup.{setupOf}
+use Rattle.protocol.specs.Range.{inRange}
+use Rattle.protocol.specs.Run.{eventsOf, stateAfter, answersOf, sentBy}
+use Rattle.protocol.specs.declared.Started.{Started}
+use Rattle.protocol.specs.declared.Entry.{Entry}
 use Rattle.protocol.specs.declared.Row.{Row}
 use Rattle.protocol.specs.declared.Place.{Place}
 use Rattle.protocol.specs.declared.State.{State}
 use Rattle.text.specs.Written.{bytes}
 use Rattle.text.specs.Decimal.{digits}
 use Rattle.text.specs.Laws.{digits-length}
+use Rattle.laws.specs.Tests.{Test, yes-so, not-so, test}
+use Rattle.laws.specs.Read.{cond-keeps}
+use Rattle.laws.specs.Shape.{Shaped}
+use Rattle.laws.specs.InRange.{sites-fit, count-fits, range-out}
+use Rattle.laws.specs.Ranged.{after-ranged, after-counts}
+use Rattle.laws.specs.Runs.{events-length, answers-length, setup-of-ranged}
+use Rattle.scenario.specs.Format.{Read, readText, whole, entriesOf}
 use Rattle.scenario.specs.Put.{siteOf}
-use Rattle.scenario.specs.Report.{lineOf, othersOf, commasOf, listOf, answerLines, siteLines}
+use Rattle.scenario.specs.Report.{maxText, reportRoom, lineOf, othersOf, commasOf, listOf, answerLines, siteLines, runLines, outcomeOf, readReport, reportOf}
 
 -- ---- a line
 
@@ -133,9 +148,9 @@ sites-next i s =
     ∙ append-nil (siteOf (s .count) (rowAt s i) (placeAt s i)))
 
 -- some sites and the next are no longer than all
-pub sites-fit : (n i : ℕ) (s : State) → i < n
+pub sites-part : (n i : ℕ) (s : State) → i < n
     → length (siteLines i 0 s) + length (siteOf (s .count) (rowAt s i) (placeAt s i)) ≤ length (siteLines n 0 s)
-sites-fit n i s h =
+sites-part n i s h =
     let e : i + 1 + (n - (i + 1)) ≡ n = omega arith in
     omega (
       arith,
@@ -176,9 +191,9 @@ report-length l n s m =
     ∙ ap (λ (k : ℕ). length (answerLines l) + k) (length-append (siteLines n 0 s) (lineOf (bytes "messages=") m))
 
 -- of at most 1,024 answers and eight sites
-pub report-room : (l : List ℕ) (n : ℕ) (s : State) (m : ℕ) → length l ≤ 1024 → n ≤ 8 → s .count ≤ 32
+pub report-room : (l : List ℕ) (n : ℕ) (s : State) (m : ℕ) → length l ≤ maxEvents → n ≤ maxSites → s .count ≤ maxTxns
     → ((k : ℕ) → k < n → length (logOf (placeAt s k)) ≤ 32)
-    → length (answerLines l ++ (siteLines n 0 s ++ lineOf (bytes "messages=") m)) ≤ 24576
+    → length (answerLines l ++ (siteLines n 0 s ++ lineOf (bytes "messages=") m)) ≤ reportRoom
 report-room l n s m a b c g =
     omega (
       arith,
@@ -187,3 +202,74 @@ report-room l n s m a b c g =
       sites-room n 0 s c (λ k i j. g k (omega arith)),
       messages-room m,
     )
+
+-- of a run from a state in range
+module _ (s : State) (numbers : List ℕ) (h : Shaped s) (r : inRange s ≡ true) (few : length numbers ≤ 7 * maxEvents) where
+  abbrev last : State
+  last = stateAfter s (eventsOf numbers)
+
+  -- its last state has no more sites and transactions than a setup takes
+  pub last-fits : (last .sites ≤ maxSites) × (last .count ≤ maxTxns)
+  last-fits =
+      let t = range-out last (after-ranged s (eventsOf numbers) h r .1) .table in
+      (sites-fit last t, count-fits last t)
+
+  -- it has at most 1,024 answers
+  pub answers-few : length (answersOf s (eventsOf numbers)) ≤ maxEvents
+  answers-few = omega (arith, answers-length s (eventsOf numbers), events-length numbers)
+
+  run-fits : length (runLines s numbers) ≤ reportRoom
+  unfolding runLines
+  run-fits =
+      let sites = after-counts s (eventsOf numbers) .0 in
+      report-room (answersOf s (eventsOf numbers)) (s .sites) last (sentBy s (eventsOf numbers)) answers-few
+      (omega (arith, last-fits .0)) (last-fits .1) (λ k l. log-fits k (omega (arith, last-fits .0)))
+    where
+      log-fits : (k : ℕ) → k < maxSites → length (logOf (placeAt last k)) ≤ 32
+      log-fits k l =
+          omega (
+            arith,
+            length-take (placeAt last k .log .length) (placeAt last k .log .entries),
+            after-ranged s (eventsOf numbers) h r .0 .place k l .entries,
+          )
+
+-- ---- every text
+
+-- a line that stands alone
+pub setup-fits : (n : ℕ) → length (lineOf (bytes "setup=") n) ≤ reportRoom
+unfolding bytes
+setup-fits n = omega (arith, line-room (bytes "setup=") n)
+
+pub fault-fits : (n : ℕ) → length (lineOf (bytes "fault=") n) ≤ reportRoom
+unfolding bytes
+fault-fits n = omega (arith, line-room (bytes "fault=") n)
+
+-- what a text of the form announces
+outcome-fits : (sites n : ℕ) (es : List Entry) (events : ℕ) (numbers : List ℕ)
+    → length (outcomeOf (setupOf sites n es) events numbers) ≤ reportRoom
+unfolding outcomeOf
+outcome-fits sites n es events numbers = begun (test (eqb (setupOf sites n es .answer) 0))
+  where
+    goes : setupOf sites n es .answer ≡ 0 → Test (ltb maxEvents events)
+        → length (cond (ltb maxEvents events) (lineOf (bytes "setup=") 31) (runLines (setupOf sites n es .state) (take (7 * events) numbers))) ≤ reportRoom
+    goes a (yes-so b) = rw b (setup-fits 31)
+    goes a (not-so b) =
+        let f = setup-of-ranged sites n es a in
+        rw b
+        (run-fits (setupOf sites n es .state) (take (7 * events) numbers) (f .0) (f .1)
+        (omega (arith, length-take (7 * events) numbers, ltb-false maxEvents events b)))
+
+    begun : Test (eqb (setupOf sites n es .answer) 0) → length (outcomeOf (setupOf sites n es) events numbers) ≤ reportRoom
+    begun (yes-so b) = rw b (goes (eqb-true _ _ b) (test (ltb maxEvents events)))
+    begun (not-so b) = rw b (setup-fits (setupOf sites n es .answer))
+
+-- the report of every text has room
+pub report-fits : (t : List ℕ) → length (reportOf t) ≤ reportRoom
+unfolding reportOf readReport
+report-fits t =
+    let fits : List ℕ → Type 0 = λ l. length l ≤ reportRoom in
+    let r = readText t in
+    cond-keeps fits (ltb maxText (length t)) _ _ (λ e. fault-fits 0)
+    (λ e. cond-keeps fits (whole (r .reading .want)) _ _
+    (λ w. outcome-fits (r .reading .sites) (r .reading .count) (entriesOf (r .homes)) (r .reading .events) (r .numbers))
+    (λ w. fault-fits (r .reading .line)))

@@ -1,4 +1,10 @@
 // The scenario: the text that a user writes and the report that comes back.
+ghost use mathlib.Core.Path.{_≡_};
+ghost use lib.ListN.{length};
+ghost use Rattle.scenario.specs.Report.{reportOf, reported, reportedIn};
+use crate::printer::put_bytes;
+use crate::rehearsal::put_report;
+use protocol::ACCEPTED;
 
 // Which line is wanted next: the number of sites, the number of transactions, a transaction's home, its priority, the
 // number of events, an event, nothing more; or the last line was not of the form.
@@ -24,5 +30,45 @@ pub struct Reading {
     pub events: u32,
 }
 
+// What became of a report: 0 and its length, or the number of its refusal and 0.
+pub struct Reported {
+    pub answer: u32,
+    pub length: usize,
+}
+
+// The lent bytes are too few for the report.
+pub const SHORT_BUFFER: u32 = 34;
+
+// So many bytes are enough for every report.
+pub const REPORT_ROOM: usize = 24576;
+
+// The longest text that is read.
+pub const MAX_TEXT: usize = 65536;
+
+// What is kept of a text: two numbers for each transaction that a setup takes, and seven for each event of a run.
+pub const HOMES: usize = 64;
+
+pub const NUMBERS: usize = 7168;
+
+pub(crate) mod printer;
 pub mod reader;
-pub(crate) mod report;
+pub(crate) mod rehearsal;
+
+// The report of a text into lent bytes, whose others stay. Where they are too few nothing is written.
+pub fn report(text: &[u8], out: &mut [u8]) -> Reported
+    ensures { λ r. ⌜ (r ≡ reported (reportOf (now (text .entry))) (length (now (out .entry)))) × (now (out .exit) ≡ reportedIn (reportOf (now (text .entry))) (now (out .entry))) ⌝ }
+{
+    let mut space = [0u8; REPORT_ROOM];
+    let n = put_report(&mut space, text);
+    if out.len() < n {
+        return Reported {
+            answer: SHORT_BUFFER,
+            length: 0,
+        };
+    }
+    put_bytes(out, 0, &space[..n]);
+    Reported {
+        answer: ACCEPTED,
+        length: n,
+    }
+}

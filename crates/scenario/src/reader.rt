@@ -2,11 +2,13 @@
 ghost use mathlib.Core.Path.{_≡_};
 ghost use mathlib.Core.Bool.{cond};
 ghost use Prim.Native.Nat.{_<_, _+_, _*_};
-ghost use lib.ListN.{set};
+ghost use lib.ListN.{length, set};
 ghost use lib.Seq.{sets};
-ghost use Rattle.scenario.specs.Format.{begin, faulted, moved, after, sitesLine, countLine, homeLine, priorityLine, eventsLine, eventLine, eventOf, nextBy, kept, homesBy, numbersBy, readInto, whole};
+ghost use Rattle.protocol.specs.State.{maxTxns};
+ghost use Rattle.scenario.specs.Format.{begin, faulted, moved, after, sitesLine, countLine, homeLine, priorityLine, eventsLine, eventLine, eventOf, nextBy, kept, homesBy, numbersBy, readInto, whole, entriesOf};
 use crate::Reading;
 use crate::Want;
+use protocol::Entry;
 use text::Fields;
 use text::Number;
 
@@ -274,4 +276,25 @@ pub fn whole(m: Reading) -> bool
         Want::Nothing => true,
         Want::Fault => false,
     }
+}
+
+// The entries for setup: of each transaction the home and the priority that were read.
+pub(crate) fn entries_of(homes: &[u32]) -> [Entry; 32]
+    requires { ⌜ length (now homes) ≡ 2 * maxTxns ⌝ }
+    ensures { λ r. ⌜ r ≡ entriesOf (now (homes .entry)) ⌝ }
+{
+    let none = Entry {
+        home: 0,
+        priority: 0,
+    };
+    let mut entries = [none; 32];
+    let mut t: usize = 0;
+    while t < 32 {
+        entries[t] = Entry {
+            home: homes[2 * t],
+            priority: homes[2 * t + 1],
+        };
+        t += 1;
+    }
+    entries
 }

@@ -1,7 +1,8 @@
--- What follows from the definitions: a decimal is read as n where, and only where, it is the writing of n; and where
--- the parts of a list lie.
+-- What follows from the definitions: a decimal is read as n where, and only where, it is the writing of n; where the
+-- parts of a list lie, and that they make it up; and that a line has the value n where, and only where, it is the key and
+-- the writing of n.
 use mathlib.Core.Path.{_≡_, refl, sym, ap, ap₂, _∙_}
-use mathlib.Core.Bool.{Bool, true, false, cond, _&&_}
+use mathlib.Core.Bool.{Bool, true, false, cond, _&&_, false≢true}
 use mathlib.Core.List.{List, [], _∷_, _++_, append-assoc, append-nil}
 use mathlib.Core.Logic.{_⊎_, inl, inr, ⊎-elim}
 use Prim.Native.Nat.{ℕ, zero, suc, _+_, _-_, _*_, _/_, _%_, _^_, _≤_, _<_, min}
@@ -10,10 +11,10 @@ use native.Mathlib.Omega.{arith}
 use lib.Arith.{lt-of-le-ne}
 use lib.Dec.{eqb, leb, ltb}
 use lib.ListN.{length, take, drop, getD, length-append, length-drop, List·getD-append}
-use lib.Seq.{take-all, drop-drop}
+use lib.Seq.{take-all, drop-drop, drop-append-seam}
 use borrow.Author.Tests.{lt-ltb, le-ltb, le-leb, eq-eqb, ne-eqb, leb-true, ltb-true, ltb-false, eqb-true, eqb-false}
 use Rattle.text.specs.Decimal.{goesOn, numberOf, digits, digitsBy}
-use Rattle.text.specs.Line.{before, cut, parts}
+use Rattle.text.specs.Line.{before, cut, parts, starts, valueOf}
 use Rattle.text.specs.declared.Number.the-variants.{Is, Not}
 
 -- ---- the writing of a number
@@ -324,6 +325,17 @@ parts-some b (x ∷ l) = go (eqb x b) (parts b l)
     go false [] = omega arith
     go false (p ∷ ps) = omega arith
 
+-- at most one more than there are bytes
+pub parts-few : (b : ℕ) (l : List ℕ) → length (parts b l) ≤ length l + 1
+unfolding parts
+parts-few b [] = omega arith
+parts-few b (x ∷ l) = go (eqb x b) (parts b l) (parts-few b l)
+  where
+    go : (t : Bool) (ps : List (List ℕ)) → length ps ≤ length l + 1 → length (cut t x ps) ≤ suc (length l) + 1
+    go true ps h = omega arith
+    go false [] h = omega arith
+    go false (p ∷ ps) h = omega arith
+
 -- ---- the parts from a place on: the next ends at e, where the first b at or after `at` stands
 
 module _ (b : ℕ) (l : List ℕ) (at e : ℕ) (h : at ≤ length l) (f : e ≡ min at (length l) + before b (drop at l)) where
@@ -342,3 +354,116 @@ module _ (b : ℕ) (l : List ℕ) (at e : ℕ) (h : at ≤ length l) (f : e ≡ 
       (lt-of-le-ne (before-le b (drop at l)) (λ z. g (omega (arith, length-drop at l))))
       ∙ ap₂ (λ (i : ℕ) (p : List ℕ). take i (drop at l) ∷ parts b p) n
       (drop-drop (suc (before b (drop at l))) at l ∙ ap (λ (i : ℕ). drop i l) m)
+
+-- ---- parts that are put together
+
+-- where no b stands in either of two lists, none stands in both together
+pub lacks-both : (b : ℕ) (l m : List ℕ) → before b l ≡ length l → before b m ≡ length m
+    → before b (l ++ m) ≡ length (l ++ m)
+unfolding before
+lacks-both b [] m h g = g
+lacks-both b (x ∷ l) m h g = go (eqb x b) h (λ e. lacks-both b l m e g)
+  where
+    go : (t : Bool) → cond t 0 (suc (before b l)) ≡ suc (length l)
+        → (before b l ≡ length l → before b (l ++ m) ≡ length (l ++ m))
+        → cond t 0 (suc (before b (l ++ m))) ≡ suc (length (l ++ m))
+    go true h r = absurd (omega arith)
+    go false h r = ap suc (r (omega arith))
+
+-- no byte below the digits, such as a line feed or a comma, is among them ..
+by-lacks : (b k n : ℕ) → b < 48 → before b (digitsBy k n) ≡ length (digitsBy k n)
+unfolding before digitsBy
+by-lacks b zero n h = refl
+by-lacks b (suc k) n h = go (ltb n 10) (by-lacks b k (n / 10) h)
+  where
+    one : (d : ℕ) → before b ((48 + d) ∷ []) ≡ 1
+    one d = simp (ne-eqb (48 + d) b (λ e. omega arith))
+
+    go : (t : Bool) → before b (digitsBy k (n / 10)) ≡ length (digitsBy k (n / 10))
+        → before b (cond t ((48 + n) ∷ []) (digitsBy k (n / 10) ++ ((48 + n % 10) ∷ [])))
+        ≡ length (cond t ((48 + n) ∷ []) (digitsBy k (n / 10) ++ ((48 + n % 10) ∷ [])))
+    go true r = one n
+    go false r = lacks-both b (digitsBy k (n / 10)) ((48 + n % 10) ∷ []) r (one (n % 10))
+
+-- .. so none stands in a writing
+pub digits-lacks : (b n : ℕ) → b < 48 → before b (digits n) ≡ length (digits n)
+unfolding digits
+digits-lacks b n h = by-lacks b 10 n h
+
+-- a list without a b, then a b, then more: the list is the first part
+pub parts-then : (b : ℕ) (l t : List ℕ) → before b l ≡ length l → parts b (l ++ (b ∷ t)) ≡ l ∷ parts b t
+unfolding before parts
+parts-then b [] t h = simp (eq-eqb b b refl)
+parts-then b (x ∷ l) t h = go (eqb x b) h (parts-then b l t)
+  where
+    go : (c : Bool) → cond c 0 (suc (before b l)) ≡ suc (length l)
+        → (before b l ≡ length l → parts b (l ++ (b ∷ t)) ≡ l ∷ parts b t)
+        → cut c x (parts b (l ++ (b ∷ t))) ≡ (x ∷ l) ∷ parts b t
+    go true h r = absurd (omega arith)
+    go false h r = ap (cut false x) (r (omega arith))
+
+-- the parts with a b between each two
+unfoldable pub joined : ℕ → List (List ℕ) → List ℕ
+joined b [] = []
+joined b (p ∷ []) = p
+joined b (p ∷ q ∷ ps) = p ++ (b ∷ joined b (q ∷ ps))
+
+-- the parts of a list, joined, are the list
+pub joined-parts : (b : ℕ) (l : List ℕ) → joined b (parts b l) ≡ l
+unfolding joined parts
+joined-parts b [] = refl
+joined-parts b (x ∷ l) = go (eqb x b) refl (parts b l) (parts-some b l) (joined-parts b l)
+  where
+    go : (t : Bool) → eqb x b ≡ t → (ps : List (List ℕ)) → 0 < length ps → joined b ps ≡ l
+        → joined b (cut t x ps) ≡ x ∷ l
+    go t e [] h r = absurd (omega arith)
+    go true e (p ∷ ps) h r = ap₂ (λ (y : ℕ) (m : List ℕ). y ∷ m) (sym (eqb-true x b e)) r
+    go false e (p ∷ []) h r = ap (λ (m : List ℕ). x ∷ m) r
+    go false e (p ∷ q ∷ ps) h r = ap (λ (m : List ℕ). x ∷ m) r
+
+-- ---- a key and a decimal
+
+-- a key and more starts with the key
+pub starts-key : (key l : List ℕ) → starts key (key ++ l) ≡ true
+unfolding starts
+starts-key [] l = refl
+starts-key (k ∷ key) l = simp (eq-eqb k k refl, starts-key key l)
+
+-- what starts with a key is the key and what comes after it
+pub key-starts : (key l : List ℕ) → starts key l ≡ true → key ++ drop (length key) l ≡ l
+unfolding starts
+key-starts [] l h = refl
+key-starts (k ∷ key) [] h = absurd (false≢true h)
+key-starts (k ∷ key) (x ∷ l) h = go (eqb x k) refl h (key-starts key l)
+  where
+    go : (t : Bool) → eqb x k ≡ t → t && starts key l ≡ true
+        → (starts key l ≡ true → key ++ drop (length key) l ≡ l)
+        → k ∷ (key ++ drop (length key) l) ≡ x ∷ l
+    go true e h r = ap₂ (λ (y : ℕ) (m : List ℕ). y ∷ m) (sym (eqb-true x k e)) (r h)
+    go false e h r = absurd (false≢true h)
+
+-- a key and the writing of a number of 32 bits have that number as their value ..
+pub value-written : (key : List ℕ) (n : ℕ) → n < 4294967296 → valueOf key (key ++ digits n) ≡ Is n
+unfolding valueOf
+value-written key n h = rw (starts-key key (digits n), drop-append-seam key (digits n)) (read-back n h)
+
+-- what has a value starts with the key, and what comes after the key is the value's decimal
+valued : (key l : List ℕ) (n : ℕ) → valueOf key l ≡ Is n
+    → (starts key l ≡ true) × (numberOf (drop (length key) l) ≡ Is n)
+unfolding valueOf
+valued key l n e = go (starts key l) refl e
+  where
+    go : (t : Bool) → starts key l ≡ t → cond t (numberOf (drop (length key) l)) Not ≡ Is n
+        → (starts key l ≡ true) × (numberOf (drop (length key) l) ≡ Is n)
+    go true s f = (s, f)
+    go false s f = absurd (no n f)
+
+-- .. so only they have it ..
+pub value-read : (key l : List ℕ) (n : ℕ) → valueOf key l ≡ Is n → key ++ digits n ≡ l
+value-read key l n e =
+    let v = valued key l n e in
+    ap (λ (m : List ℕ). key ++ m) (print-back (drop (length key) l) n (v .1)) ∙ key-starts key l (v .0)
+
+-- .. and it is a number of 32 bits
+pub value-fits : (key l : List ℕ) (n : ℕ) → valueOf key l ≡ Is n → n < 4294967296
+value-fits key l n e = number-fits (drop (length key) l) n (valued key l n e .1)

@@ -9,7 +9,8 @@ use lib.ListN.{length}
 use Rattle.protocol.specs.Range.{inRange}
 use Rattle.protocol.specs.Answer.{step}
 use Rattle.protocol.specs.Run.{eventsOf}
-use Rattle.rules.proofs.EventList.{events-length, events-from}
+use Rattle.laws.specs.Runs.{events-length}
+use Rattle.rules.proofs.EventList.{events-from}
 use Rattle.rules.proofs.Running.{Going, going-begun, going-turned, refused-31, refused-32, refused-1, completed}
 use Rattle.rules.proofs.Shape.{shaped}
 use Rattle.rules.proofs.run.Statement.{statement}

@@ -5,8 +5,8 @@ use Rattle.scenario.specs.Put.{endLines}
 use Rattle.scenario.proofs.Shape.{run-room}
 use Rattle.scenario.proofs.Writing.{then}
 use borrow.Author.Needs.{needs}
-use Rattle.scenario.proofs.report.put_run.Statement.{statement}
-use Rattle.scenario.proofs.report.put_run.Tie as tie
+use Rattle.scenario.proofs.printer.put_run.Statement.{statement}
+use Rattle.scenario.proofs.printer.put_run.Tie as tie
 
 put-answers-requires : tie.Need-put-answers-requires
 put-answers-requires c κs =

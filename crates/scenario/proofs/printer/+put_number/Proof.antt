@@ -9,11 +9,11 @@ use Rattle.text.specs.Laws.{digits-low, digits-high}
 use Rattle.scenario.proofs.Writing.{one, then, same}
 use borrow.Fn.Kinds.{In}
 use borrow.Fn.PlainCycle.{Measures, is, falls, and}
-use Rattle.scenario.proofs.report.put_number.Reads as put-number
-use Rattle.scenario.proofs.report.put_number.Kinds as put-number-kinds
-use Rattle.scenario.proofs.report.+put_number.Lts-put_number as put-number-lts
-use Rattle.scenario.proofs.report.+put_number.{statement}
-use Rattle.scenario.proofs.report.+put_number.Tie.{close}
+use Rattle.scenario.proofs.printer.put_number.Reads as put-number
+use Rattle.scenario.proofs.printer.put_number.Kinds as put-number-kinds
+use Rattle.scenario.proofs.printer.+put_number.Lts-put_number as put-number-lts
+use Rattle.scenario.proofs.printer.+put_number.{statement}
+use Rattle.scenario.proofs.printer.+put_number.Tie.{close}
 
 -- what is of two digits or more is one longer than its tenth
 high : (n : ℕ) → 10 ≤ n → n < 4294967296 → length (digits n) ≡ length (digits (n / 10)) + 1

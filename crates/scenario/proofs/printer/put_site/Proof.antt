@@ -5,8 +5,8 @@ use Rattle.text.specs.Written.{bytes}
 use Rattle.scenario.specs.Put.{siteOf}
 use Rattle.scenario.specs.Room.{site-length}
 use Rattle.scenario.proofs.Writing.{then}
-use Rattle.scenario.proofs.report.put_site.Statement.{statement}
-use Rattle.scenario.proofs.report.put_site.Tie as tie
+use Rattle.scenario.proofs.printer.put_site.Statement.{statement}
+use Rattle.scenario.proofs.printer.put_site.Tie as tie
 
 slice-aggregate-put-list : tie.Need-slice-aggregate-put-list
 slice-aggregate-put-list c = search needs

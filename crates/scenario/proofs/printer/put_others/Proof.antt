@@ -5,8 +5,8 @@ use lib.ListN.{length, take, length-set}
 use Rattle.scenario.specs.Put.{Put}
 use Rattle.scenario.specs.Report.{othersOf}
 use Rattle.scenario.proofs.Writing.{one, then, put-length, other-rows, rows-room, rows-begin, rows-again, rows-end}
-use Rattle.scenario.proofs.report.put_others.Statement.{statement}
-use Rattle.scenario.proofs.report.put_others.Tie as tie
+use Rattle.scenario.proofs.printer.put_others.Statement.{statement}
+use Rattle.scenario.proofs.printer.put_others.Tie as tie
 
 abbrev Inv-loop : tie.InvT-loop
 Inv-loop out₀ at l i₀ e₀ out i e = (i ≤ length l) × Put out₀ at (othersOf (take i l)) out e

@@ -9,8 +9,8 @@ use borrow.Author.Needs.{needs}
 use Rattle.scenario.specs.Report.{commasOf, listOf}
 use Rattle.scenario.specs.Room.{list-length}
 use Rattle.scenario.proofs.Writing.{one, then, same, take-first}
-use Rattle.scenario.proofs.report.put_list.Statement.{statement}
-use Rattle.scenario.proofs.report.put_list.Tie as tie
+use Rattle.scenario.proofs.printer.put_list.Statement.{statement}
+use Rattle.scenario.proofs.printer.put_list.Tie as tie
 
 first-of-requires : tie.Need-first-of-requires
 first-of-requires c κs = search needs

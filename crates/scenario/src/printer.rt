@@ -1,11 +1,12 @@
-// The report, written into lent bytes. Each function writes its text from a place on and answers the place after it; its
+// The printer: the lines of a report, written into lent bytes. Each function writes its text from a place on and answers the place after it; its
 // caller has seen to the room.
 ghost use mathlib.Core.Path.{_≡_};
 ghost use Prim.Native.Nat.{_+_, _≤_, min};
 ghost use lib.ListN.{length, take};
+ghost use Rattle.protocol.specs.State.{maxSites, maxTxns, maxEvents};
 ghost use Rattle.text.specs.Decimal.{digits};
 ghost use Rattle.scenario.specs.Put.{Put, siteOf, endLines};
-ghost use Rattle.scenario.specs.Report.{lineOf, othersOf, commasOf, listOf, answerLines, siteLines};
+ghost use Rattle.scenario.specs.Report.{reportRoom, lineOf, othersOf, commasOf, listOf, answerLines, siteLines};
 use protocol::Place;
 use protocol::Row;
 use protocol::State;
@@ -26,7 +27,7 @@ fn put_number(out: &mut [u8], at: usize, n: u32) -> usize
 }
 
 // The bytes of s.
-fn put_bytes(out: &mut [u8], at: usize, s: &[u8]) -> usize
+pub(crate) fn put_bytes(out: &mut [u8], at: usize, s: &[u8]) -> usize
     requires { ⌜ at + length (now s) ≤ length (now out) ⌝ }
     ensures { λ r. ⌜ Put (now (out .entry)) at (now (s .entry)) (now (out .exit)) r ⌝ }
 {
@@ -50,7 +51,7 @@ pub(crate) fn put_line(out: &mut [u8], at: usize, key: &[u8], n: u32) -> usize
 }
 
 // A line for each answer.
-pub(crate) fn put_answers(out: &mut [u8], at: usize, l: &[u8]) -> usize
+fn put_answers(out: &mut [u8], at: usize, l: &[u8]) -> usize
     requires { ⌜ at + length (answerLines (now l)) ≤ length (now out) ⌝ }
     ensures { λ r. ⌜ Put (now (out .entry)) at (answerLines (now (l .entry))) (now (out .exit)) r ⌝ }
 {
@@ -122,8 +123,8 @@ fn put_site(out: &mut [u8], at: usize, count: u32, row: Row, place: Place) -> us
 }
 
 // The lines of all sites.
-pub(crate) fn put_sites(out: &mut [u8], at: usize, s: State) -> usize
-    requires { ⌜ (s .sites ≤ 8) × (at + length (siteLines (s .sites) 0 s) ≤ length (now out)) ⌝ }
+fn put_sites(out: &mut [u8], at: usize, s: State) -> usize
+    requires { ⌜ (s .sites ≤ maxSites) × (at + length (siteLines (s .sites) 0 s) ≤ length (now out)) ⌝ }
     ensures { λ r. ⌜ Put (now (out .entry)) at (siteLines (s .sites) 0 s) (now (out .exit)) r ⌝ }
 {
     let n = s.sites as usize;
@@ -141,7 +142,7 @@ pub(crate) fn put_sites(out: &mut [u8], at: usize, s: State) -> usize
 // What a run reports: the lines of its answers, at most 1,024, and of the sites of the state s that it ends in, and how
 // many messages were sent.
 pub(crate) fn put_run(out: &mut [u8], at: usize, l: &[u8], s: State, sent: u32) -> usize
-    requires { ⌜ (length (now l) ≤ 1024) × (s .sites ≤ 8) × (s .count ≤ 32) × (at + 24576 ≤ length (now out)) ⌝ }
+    requires { ⌜ (length (now l) ≤ maxEvents) × (s .sites ≤ maxSites) × (s .count ≤ maxTxns) × (at + reportRoom ≤ length (now out)) ⌝ }
     ensures { λ r. ⌜ Put (now (out .entry)) at (endLines (now (l .entry)) s sent) (now (out .exit)) r ⌝ }
 {
     let a = put_answers(out, at, l);

@@ -4,10 +4,10 @@ use mathlib.Core.Path.{_≡_, sym, ap}
 use native.Mathlib.Omega.{arith}
 use Rattle.scenario.specs.Put.{Put}
 use Rattle.scenario.specs.Report.{siteLines}
-use Rattle.scenario.specs.Room.{sites-none, sites-next, sites-fit}
+use Rattle.scenario.specs.Room.{sites-none, sites-next, sites-part}
 use Rattle.scenario.proofs.Writing.{none, then, same, put-length}
-use Rattle.scenario.proofs.report.put_sites.Statement.{statement}
-use Rattle.scenario.proofs.report.put_sites.Tie as tie
+use Rattle.scenario.proofs.printer.put_sites.Statement.{statement}
+use Rattle.scenario.proofs.printer.put_sites.Tie as tie
 
 abbrev Inv-loop : tie.InvT-loop
 Inv-loop out₀ at s n i₀ e₀ out i e = (i ≤ n) × Put out₀ at (siteLines i 0 s) out e
@@ -41,7 +41,7 @@ put-site-requires c κs =
     let loop = c .before .before .before .before .loop in
     omega (
       arith,
-      sites-fit (start .args .t3 .sites) (loop .i) (start .args .t3) (omega arith),
+      sites-part (start .args .t3 .sites) (loop .i) (start .args .t3) (omega arith),
       start .pre .1,
       loop .inv .1 .place,
       put-length (loop .inv .1),

@@ -4,8 +4,8 @@ use native.Mathlib.Omega.{arith}
 use lib.ListN.{length, take}
 use Rattle.scenario.specs.Put.{Put}
 use Rattle.scenario.proofs.Writing.{one, put-length, byte-rows, rows-begin, rows-again, rows-end}
-use Rattle.scenario.proofs.report.put_bytes.Statement.{statement}
-use Rattle.scenario.proofs.report.put_bytes.Tie as tie
+use Rattle.scenario.proofs.printer.put_bytes.Statement.{statement}
+use Rattle.scenario.proofs.printer.put_bytes.Tie as tie
 
 abbrev Inv-loop : tie.InvT-loop
 Inv-loop out₀ at s i₀ out i = (i ≤ length s) × Put out₀ at (take i s) out (at + i)

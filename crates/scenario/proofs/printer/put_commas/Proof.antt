@@ -3,8 +3,8 @@ use mathlib.Core.Path.{sym}
 use native.Mathlib.Omega.{arith}
 use borrow.Author.Needs.{needs}
 use Rattle.scenario.proofs.Writing.{none, then, same, commas-none, commas-some, commas-length}
-use Rattle.scenario.proofs.report.put_commas.Statement.{statement}
-use Rattle.scenario.proofs.report.put_commas.Tie as tie
+use Rattle.scenario.proofs.printer.put_commas.Statement.{statement}
+use Rattle.scenario.proofs.printer.put_commas.Tie as tie
 
 shared-slice-read-put-number : tie.Need-shared-slice-read-put-number
 shared-slice-read-put-number c = search needs

@@ -7,8 +7,8 @@ use Rattle.text.specs.Written.{bytes}
 use Rattle.scenario.specs.Put.{Put}
 use Rattle.scenario.specs.Report.{answerLines}
 use Rattle.scenario.proofs.Writing.{put-length, answer-rows, rows-room, rows-begin, rows-again, rows-end}
-use Rattle.scenario.proofs.report.put_answers.Statement.{statement}
-use Rattle.scenario.proofs.report.put_answers.Tie as tie
+use Rattle.scenario.proofs.printer.put_answers.Statement.{statement}
+use Rattle.scenario.proofs.printer.put_answers.Tie as tie
 
 abbrev Inv-loop : tie.InvT-loop
 Inv-loop out₀ at l i₀ e₀ t6 out i e = (i ≤ length l) × Put out₀ at (answerLines (take i l)) out e

@@ -5,8 +5,8 @@ use lib.ListN.{length-set}
 use Rattle.scenario.specs.Report.{lineOf}
 use Rattle.scenario.specs.Room.{line-length}
 use Rattle.scenario.proofs.Writing.{one, then}
-use Rattle.scenario.proofs.report.put_line.Statement.{statement}
-use Rattle.scenario.proofs.report.put_line.Tie as tie
+use Rattle.scenario.proofs.printer.put_line.Statement.{statement}
+use Rattle.scenario.proofs.printer.put_line.Tie as tie
 
 put-bytes-requires : tie.Need-put-bytes-requires
 put-bytes-requires c κs =
