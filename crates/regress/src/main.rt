@@ -1,220 +1,105 @@
-// The stored runs through the compiled rules. What they must show stands in the file stdout: the marked cases and the
-// sample of document 01, and runs that were worked out from Figure 2. Most are at three sites with t0 at home at site 0
-// (priority 5), t1 at site 1 (9) and t2 at site 2 (1), and all write object 0 unless said.
-mod script;
-mod show;
+// The stored scenarios through the library. The file args names them; NAME.scenario is a text and NAME.report what must
+// come back, to the byte. The file stdout has what this program must print: every scenario the same.
+ghost use Prim.Native.Nat.{_≤_};
+ghost use lib.ListN.{length};
+ghost use Rattle.io.specs.Counts.{Counts};
+use libc::STDOUT_FILENO;
+use scenario::MAX_TEXT;
+use scenario::REPORT_ROOM;
 
-use protocol::Entry;
-use script::asks;
-use script::empty;
-use script::event;
-use script::full;
-use script::operates;
-use script::plain;
-use script::reaches;
-use script::readied;
-use script::settles;
-use script::writes;
-use show::rehearsed;
+// One byte more than a text or a report may have, so that a longer file is noticed.
+const TEXT: usize = 65537;
 
-// A table whose first three transactions have these homes and priorities.
-fn table(h0: u32, p0: u32, h1: u32, p1: u32, h2: u32, p2: u32) -> [Entry; 32] {
-    let none = Entry {
-        home: 0,
-        priority: 0,
-    };
-    let mut entries = [none; 32];
-    entries[0] = Entry {
-        home: h0,
-        priority: p0,
-    };
-    entries[1] = Entry {
-        home: h1,
-        priority: p1,
-    };
-    entries[2] = Entry {
-        home: h2,
-        priority: p2,
-    };
-    entries
-}
+const REPORT: usize = 24577;
 
-fn three() -> [Entry; 32] {
-    table(0, 5, 1, 9, 2, 1)
-}
-
-// Cases 1 and 2: fresh rows; create twice, at the wrong home, at no site, for no transaction.
-fn creating() {
-    rehearsed(1, 3, 3, three(), empty());
-    let twice = plain(plain(empty(), 1, 0, 0), 1, 0, 0);
-    let nowhere = plain(plain(twice, 1, 1, 0), 1, 9, 40);
-    rehearsed(2, 3, 3, three(), plain(nowhere, 1, 2, 40));
-}
-
-// Case 3: one site.
-fn alone() {
-    rehearsed(
-        3,
-        1,
-        1,
-        table(0, 5, 0, 0, 0, 0),
-        plain(asks(empty(), 0), 5, 0, 0),
-    );
-}
-
-// Case 4: t1 reads object 0 at t0's home, which t0 has written (4), or only read (40).
-fn sharing() {
-    let home = table(0, 5, 0, 9, 0, 0);
-    rehearsed(
-        4,
-        1,
-        2,
-        home,
-        operates(operates(empty(), 0, 0, 0, 1), 0, 1, 1, 0),
-    );
-    rehearsed(
-        40,
-        1,
-        2,
-        home,
-        operates(operates(empty(), 0, 0, 1, 0), 0, 1, 1, 0),
-    );
-}
-
-// Cases 5 to 7: t1 scanned at site 0, t0 in pre_commit; t0 scanned at site 1, t1 in pre_commit, and once more; the same
-// with t1 active after its write.
-fn crossing() {
-    let both = asks(asks(empty(), 0), 1);
-    rehearsed(5, 3, 3, three(), reaches(both, 1, 0));
-    rehearsed(6, 3, 3, three(), plain(reaches(both, 0, 1), 11, 1, 0));
-    rehearsed(7, 3, 3, three(), reaches(writes(asks(empty(), 0), 1), 0, 1));
-}
-
-// Case 8: t1 scanned at site 2 while t0 runs there, just submitted (8), or its operation ended (80).
-fn meeting() {
-    let there = reaches(asks(empty(), 0), 0, 2);
-    rehearsed(8, 3, 3, three(), reaches(asks(there, 1), 1, 2));
-    rehearsed(
-        80,
-        3,
-        3,
-        three(),
-        reaches(asks(plain(there, 3, 2, 0), 1), 1, 2),
-    );
-}
-
-// Case 9: the abort of t0 reaches site 1 before its remote.
-fn overtaking() {
-    let aborted = plain(reaches(asks(asks(empty(), 0), 1), 1, 0), 10, 1, 0);
-    let discarded = event(plain(aborted, 7, 1, 0), 12, 1, 0, 1, 0, 0, 0);
-    rehearsed(9, 3, 3, three(), event(discarded, 12, 1, 0, 1, 0, 0, 0));
-}
-
-// Case 10: end_commit with one ready missing, and with none.
-fn missing() {
-    let one = readied(reaches(asks(empty(), 0), 0, 1), 0, 0, 1);
-    let two = readied(reaches(plain(one, 5, 0, 0), 0, 2), 0, 0, 2);
-    rehearsed(10, 3, 3, three(), plain(two, 5, 0, 0));
-}
-
-// The sample of document 01.
-fn sample() {
-    let ready = readied(reaches(asks(empty(), 0), 0, 1), 0, 0, 1);
-    let early = plain(plain(ready, 5, 0, 0), 9, 1, 0);
-    rehearsed(11, 2, 1, table(0, 5, 0, 0, 0, 0), settles(early, 0, 1));
-}
-
-// Three shortcuts: a local write must not slip in after the scan; reads are not held away from home; the higher of two
-// queued goes first.
-fn shortcuts() {
-    rehearsed(
-        12,
-        3,
-        3,
-        three(),
-        writes(reaches(asks(empty(), 0), 0, 1), 1),
-    );
-    let read = reaches(plain(operates(empty(), 0, 0, 2, 1), 4, 0, 0), 0, 1);
-    rehearsed(13, 3, 3, three(), operates(read, 1, 1, 0, 2));
-    let queued = plain(plain(asks(asks(empty(), 0), 1), 7, 2, 0), 7, 2, 1);
-    rehearsed(14, 3, 3, three(), plain(queued, 11, 2, 0));
-}
-
-// A longer run: t0 gives way to t1, messages cross, t2 waits for a lock and then reads what t1 wrote.
-fn story() {
-    let given = reaches(asks(asks(empty(), 0), 1), 1, 0);
-    let told = plain(plain(given, 10, 1, 0), 10, 2, 0);
-    let late = event(plain(told, 7, 1, 0), 12, 1, 0, 1, 0, 0, 0);
-    let spread = reaches(event(late, 12, 2, 0, 1, 0, 0, 0), 1, 2);
-    let early = plain(readied(spread, 1, 1, 0), 5, 1, 1);
-    let done = plain(readied(early, 1, 1, 2), 5, 1, 1);
-    let waits = operates(done, 2, 2, 1, 2);
-    let reads = plain(settles(waits, 1, 2), 3, 2, 2);
-    let home = settles(plain(reads, 9, 0, 1), 1, 0);
-    let asked = reaches(reaches(plain(home, 4, 2, 2), 2, 0), 2, 1);
-    let ready = readied(readied(asked, 2, 2, 0), 2, 2, 1);
-    rehearsed(
-        15,
-        3,
-        3,
-        three(),
-        settles(settles(plain(ready, 5, 2, 2), 2, 0), 2, 1),
-    );
-}
-
-// Unknown actions, sites and transactions, and every field that an action does not use.
-fn ill_filled() {
-    let unknown = plain(plain(empty(), 0, 0, 0), 13, 0, 0);
-    let far = event(unknown, 4294967295, 9, 9, 9, 9, 9, 9);
-    let sites = plain(plain(far, 1, 3, 0), 1, 4294967295, 0);
-    let txns = plain(plain(plain(sites, 1, 0, 3), 11, 0, 3), 11, 0, 1);
-    let fields = event(event(txns, 1, 0, 0, 1, 0, 0, 0), 1, 0, 0, 0, 1, 0, 0);
-    let masks = event(event(fields, 1, 0, 0, 0, 0, 1, 0), 1, 0, 0, 0, 0, 0, 1);
-    let kinds = event(plain(masks, 12, 0, 0), 12, 0, 0, 5, 0, 0, 0);
-    let senders = event(event(kinds, 12, 0, 0, 2, 3, 0, 0), 12, 0, 0, 1, 1, 0, 0);
-    let homes = readied(readied(senders, 0, 0, 3), 1, 0, 2);
-    let last = event(readied(homes, 0, 0, 2), 12, 0, 0, 2, 2, 0, 0);
-    rehearsed(16, 3, 3, three(), plain(last, 11, 0, 0));
-}
-
-// Setups that are refused: for the sites (also before the count), the count, a home (also before equal priorities), and
-// two equal priorities.
-fn refused() {
-    let one = plain(empty(), 1, 0, 0);
-    rehearsed(21, 9, 3, three(), one);
-    rehearsed(210, 0, 33, three(), one);
-    rehearsed(22, 3, 33, three(), one);
-    rehearsed(220, 3, 0, three(), one);
-    rehearsed(23, 2, 3, table(0, 5, 1, 5, 2, 1), one);
-    rehearsed(25, 3, 3, table(0, 5, 1, 9, 2, 5), one);
-}
-
-// 1,024 events at eight sites with 32 transactions, transaction t at home at site t % 8.
-fn whole() {
-    let mut entries = three();
-    let mut t = 0u32;
-    while t < 32 {
-        entries[t as usize] = Entry {
-            home: t % 8,
-            priority: t,
-        };
-        t = t + 1;
+// Puts s into path from place `at` on, as far as there is room, and answers the place after it.
+fn append(path: &mut [u8], at: usize, s: &[u8]) -> usize
+    requires { ⌜ at ≤ length (now path) ⌝ }
+    ensures { λ r. ⌜ Counts r (now (path .exit)) ⌝ }
+{
+    let mut n = at;
+    while n < path.len() && n - at < s.len() {
+        path[n] = s[n - at];
+        n += 1;
     }
-    rehearsed(1024, 8, 32, entries, full());
+    n
+}
+
+// Opens the file of a scenario with this ending, and answers a descriptor, or -1.
+fn open(name: &[u8], end: &[u8]) -> i32 {
+    let mut path = [0u8; 300];
+    let m = append(&mut path, 0, name);
+    let n = append(&mut path, m, end);
+    os::open_read(&path[..n])
+}
+
+// Reads a file that was opened to its end, or until buf is full, and closes it.
+fn take(fd: i32, buf: &mut [u8]) -> usize
+    ensures { λ r. ⌜ Counts r (now (buf .exit)) ⌝ }
+{
+    let n = io::read_full(fd, buf);
+    libc::close(fd);
+    n
+}
+
+// Whether the two hold the same bytes.
+fn equal(a: &[u8], b: &[u8]) -> bool {
+    if a.len() != b.len() {
+        return false;
+    }
+    let mut i: usize = 0;
+    while i < a.len() {
+        if a[i] != b[i] {
+            return false;
+        }
+        i += 1;
+    }
+    true
+}
+
+// Whether the report of the scenario is the stored one; not where a file is missing.
+fn same(name: &[u8]) -> bool {
+    let scenario = open(name, b".scenario");
+    let report = open(name, b".report");
+    if scenario < 0 || report < 0 {
+        return false;
+    }
+    let mut text = [0u8; TEXT];
+    let n = take(scenario, &mut text);
+    let mut stored = [0u8; REPORT];
+    let m = take(report, &mut stored);
+    let mut out = [0u8; REPORT_ROOM];
+    let r = scenario::report(&text[..n], &mut out);
+    let k = r.length;
+    equal(&out[..k], &stored[..m])
+}
+
+// Says of one scenario whether its report is the stored one, and answers how many more differ.
+fn tell(name: &[u8]) -> u64
+    ensures { λ r. ⌜ r ≤ 1 ⌝ }
+{
+    io::write_all(STDOUT_FILENO, name);
+    if same(name) {
+        io::write_all(STDOUT_FILENO, b" same\n");
+        0
+    } else {
+        io::write_all(STDOUT_FILENO, b" differs\n");
+        1
+    }
 }
 
 fn main() {
-    creating();
-    alone();
-    sharing();
-    crossing();
-    meeting();
-    overtaking();
-    missing();
-    sample();
-    shortcuts();
-    story();
-    ill_filled();
-    refused();
-    whole();
+    let count = os::arg_count();
+    let mut differ: u64 = 0;
+    let mut i: usize = 1;
+    while i < count {
+        let mut space = [0u8; 256];
+        let n = os::arg(i, &mut space);
+        differ = differ + tell(&space[..n]);
+        i += 1;
+    }
+    io::print_decimal(STDOUT_FILENO, i as u64 - 1);
+    io::write_all(STDOUT_FILENO, b" scenarios, ");
+    io::print_decimal(STDOUT_FILENO, differ);
+    io::write_all(STDOUT_FILENO, b" differ\n");
 }

@@ -6,6 +6,7 @@ use mathlib.Core.List.{List, [], _∷_, _++_, append-assoc, append-nil}
 use native.Mathlib.Omega.{arith}
 use lib.Dec.{eqb, ltb}
 use lib.ListN.{length, take, length-append, length-take}
+use lib.Seq.{length-sets}
 use borrow.Author.Tests.{ltb-false, eqb-true}
 use Rattle.protocol.specs.State.{maxSites, maxTxns, maxEvents, rowAt, placeAt, logOf}
 use Rattle.protocol.specs.Setup.{setupOf}
@@ -27,7 +28,8 @@ use Rattle.laws.specs.Ranged.{after-ranged, after-counts}
 use Rattle.laws.specs.Runs.{events-length, answers-length, setup-of-ranged}
 use Rattle.scenario.specs.Format.{Read, readText, whole, entriesOf}
 use Rattle.scenario.specs.Put.{siteOf}
-use Rattle.scenario.specs.Report.{maxText, reportRoom, lineOf, othersOf, commasOf, listOf, answerLines, siteLines, runLines, outcomeOf, readReport, reportOf}
+use Rattle.scenario.specs.Report.{maxText, reportRoom, lineOf, othersOf, commasOf, listOf, answerLines, siteLines, runLines, outcomeOf, readReport, reportOf, reported, reportedIn}
+use Rattle.scenario.specs.declared.Reported.{Reported}
 
 -- ---- a line
 
@@ -273,3 +275,12 @@ report-fits t =
     (λ e. cond-keeps fits (whole (r .reading .want)) _ _
     (λ w. outcome-fits (r .reading .sites) (r .reading .count) (entriesOf (r .homes)) (r .reading .events) (r .numbers))
     (λ w. fault-fits (r .reading .line)))
+
+-- what is returned is a length inside the lent bytes, which stay as many
+pub within : (l old : List ℕ) {o : List ℕ} {r : Reported} → r ≡ reported l (length old) → o ≡ reportedIn l old → r .length ≤ length o
+unfolding reported reportedIn
+within l old {o} {r} e f = go (test (ltb (length old) (length l)))
+  where
+    go : Test (ltb (length old) (length l)) → r .length ≤ length o
+    go (yes-so b) = rw (e, b) (omega arith)
+    go (not-so b) = rw (e, f, b) (omega (arith, ltb-false (length old) (length l) b, length-sets old 0 l))
