@@ -20,16 +20,16 @@ module _ {A : Type 0} (n : ℕ) (f : ℕ → A) (d : A) where
   filled-none l e = record { place = omega arith; long = e; first = λ j h. absurd (omega arith) }
 
   -- one more
-  pub filled-next : {k : ℕ} {l : List A} → Filled k l → k < n → Filled (k + 1) (set l k (f k))
-  filled-next {k} {l} g h = record {
+  pub filled-next : {k : ℕ} {l : List A} {x : A} → Filled k l → k < n → x ≡ f k → Filled (k + 1) (set l k x)
+  filled-next {k} {l} {x} g h p = record {
     place = omega arith;
-    long = length-set l k (f k) ∙ g .long;
+    long = length-set l k x ∙ g .long;
     first = λ j i. go j i (same? j k);
   }
     where
-      go : (j : ℕ) → j < k + 1 → Same j k → getD (set l k (f k)) j d ≡ f j
-      go j i (same e) = rw e (getD-set-same l k (f k) d (omega (arith, g .long)))
-      go j i (other o) = getD-set-other l k j (f k) d o ∙ g .first j (omega arith)
+      go : (j : ℕ) → j < k + 1 → Same j k → getD (set l k x) j d ≡ f j
+      go j i (same e) = rw e (getD-set-same l k x d (omega (arith, g .long)) ∙ p)
+      go j i (other o) = getD-set-other l k j x d o ∙ g .first j (omega arith)
 
   -- all
   pub filled-all : {k : ℕ} {l : List A} → Filled k l → n ≤ k → l ≡ table n f

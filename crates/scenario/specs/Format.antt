@@ -157,6 +157,10 @@ whole Event = false
 whole Nothing = true
 whole Fault = false
 
+-- the first n entries of a list that has the home and the priority of each in turn
+unfoldable pub entriesIn : ℕ → List ℕ → List Entry
+entriesIn n hs = table n (λ t. record { home = getD hs (2 * t) 0; priority = getD hs (2 * t + 1) 0 })
+
 -- the entries for setup, of which the first `count` count
-unfoldable pub entriesOf : List ℕ → List Entry
-entriesOf hs = table maxTxns (λ t. record { home = getD hs (2 * t) 0; priority = getD hs (2 * t + 1) 0 })
+abbrev pub entriesOf : List ℕ → List Entry
+entriesOf hs = entriesIn maxTxns hs

@@ -17,9 +17,9 @@ use Rattle.text.specs.Written.{bytes}
 use Rattle.text.specs.Line.{parts}
 use Rattle.text.specs.Laws.{joined, joined-parts}
 use Rattle.scenario.specs.declared.Want.the-variants.{Home, Events, Event as Next, Nothing}
-use Rattle.scenario.specs.Format.{Read, begin, after, allLines, readInto, whole, entriesOf}
+use Rattle.scenario.specs.Format.{Read, begin, after, allLines, readInto, whole, entriesIn, entriesOf}
 use Rattle.scenario.specs.Report.{lineOf, listOf}
-use Rattle.scenario.specs.Tables.{Tables, entryLines, fieldsIn, eventLines, textOf, homesOf, numbersOf, readOf, entriesIn, tablesOf, Small, AllSmall, Fits}
+use Rattle.scenario.specs.Tables.{Tables, entryLines, fieldsIn, eventLines, textOf, homesOf, numbersOf, readOf, tablesOf, Small, AllSmall, Fits}
 use Rattle.scenario.specs.Commas.{small-more, small-both, small-first, small-rest, fieldsSmall}
 use Rattle.scenario.specs.Wanted.{at, nothing-after, line-reads, line-taken, sites-wanted, count-wanted, home-wanted, priority-wanted, events-wanted, event-wanted}
 
@@ -340,5 +340,5 @@ take-table f (suc n) (suc m) i h = ap (λ (x : List Entry). f i ∷ x) (take-tab
 
 -- "of which the first `count` count": these are the entries of the tables
 pub setup-entries : (n : ℕ) (hs : List ℕ) → n ≤ maxTxns → take n (entriesOf hs) ≡ entriesIn n hs
-unfolding entriesOf entriesIn
+unfolding entriesIn
 setup-entries n hs h = take-table _ n maxTxns 0 h

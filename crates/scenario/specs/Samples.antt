@@ -21,7 +21,7 @@ use Rattle.protocol.specs.Run.{stateAfter, answersOf, sentBy, eventsOf}
 use Rattle.text.specs.Written.{bytes}
 use Rattle.text.specs.Decimal.{goesOn, numberOf, digitsBy, digits}
 use Rattle.text.specs.Line.{parts, starts, valueOf, allNumbers, fieldsBy, fieldsOf}
-use Rattle.scenario.specs.Format.{begin, faulted, moved, sitesLine, countLine, homeLine, priorityLine, eventsLine, eventLine, eventOf, nextBy, kept, homesBy, numbersBy, nextLine, allLines, readInto, whole, entriesOf}
+use Rattle.scenario.specs.Format.{begin, faulted, moved, sitesLine, countLine, homeLine, priorityLine, eventsLine, eventLine, eventOf, nextBy, kept, homesBy, numbersBy, nextLine, allLines, readInto, whole, entriesIn}
 use Rattle.scenario.specs.Report.{lineOf, othersOf, commasOf, listOf, answerLines, siteLines, runLines, outcomeOf, readReport, reportOf}
 
 -- a text, and the report that must come back
@@ -108,7 +108,7 @@ unfolding bytes onesIn has isEmpty withIn union minus without overlap firstIn al
     illFilled homeMet wrongHome wrongStatus wrongMissing messageThere noMessage lockClash noScan checksInRange
     checks answer done step stateAfter answersOf sentBy setupOf eventsOf goesOn numberOf digitsBy digits parts
     starts valueOf allNumbers fieldsBy fieldsOf begin faulted moved sitesLine countLine homeLine
-    priorityLine eventsLine eventLine eventOf nextBy kept homesBy numbersBy nextLine allLines readInto whole entriesOf lineOf othersOf commasOf listOf answerLines siteLines runLines
+    priorityLine eventsLine eventLine eventOf nextBy kept homesBy numbersBy nextLine allLines readInto whole entriesIn lineOf othersOf commasOf listOf answerLines siteLines runLines
     outcomeOf readReport reportOf
 printed s = reportOf (bytes (s .text))
 

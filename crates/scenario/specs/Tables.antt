@@ -3,12 +3,11 @@ use Prim.Native.Nat.{ℕ, _+_, _*_, _<_}
 use mathlib.Core.List.{List, [], _∷_, _++_}
 use lib.ListN.{length, take, getD}
 use lib.Seq.{sets}
-use Rattle.protocol.specs.Lists.{table}
 use Rattle.protocol.specs.Run.{eventsOf}
 use Rattle.protocol.specs.declared.Entry.{Entry}
 use Rattle.protocol.specs.declared.Event.{Event}
 use Rattle.text.specs.Written.{bytes}
-use Rattle.scenario.specs.Format.{Read}
+use Rattle.scenario.specs.Format.{Read, entriesIn}
 use Rattle.scenario.specs.Report.{lineOf, listOf}
 use Rattle.scenario.specs.declared.Want.the-variants.{Nothing}
 
@@ -71,10 +70,6 @@ readOf hs ns s = record {
 }
 
 -- ---- and back
-
--- the first n entries of a list that has the home and the priority of each in turn; `entriesOf` is so many as setup takes
-unfoldable pub entriesIn : ℕ → List ℕ → List Entry
-entriesIn n hs = table n (λ t. record { home = getD hs (2 * t) 0; priority = getD hs (2 * t + 1) 0 })
 
 -- the tables that a text has filled
 unfoldable pub tablesOf : Read → Tables

@@ -2,9 +2,8 @@
 ghost use mathlib.Core.Path.{_≡_};
 ghost use mathlib.Core.Bool.{cond};
 ghost use Prim.Native.Nat.{_<_, _+_, _*_};
-ghost use lib.ListN.{length, set};
+ghost use lib.ListN.{getD, set};
 ghost use lib.Seq.{sets};
-ghost use Rattle.protocol.specs.State.{maxTxns};
 ghost use Rattle.scenario.specs.Format.{begin, faulted, moved, after, sitesLine, countLine, homeLine, priorityLine, eventsLine, eventLine, eventOf, nextBy, kept, homesBy, numbersBy, readInto, whole, entriesOf};
 use crate::Reading;
 use crate::Want;
@@ -278,9 +277,15 @@ pub fn whole(m: Reading) -> bool
     }
 }
 
+// What stands at place k, or 0 where the list has no such place.
+fn number_at(list: &[u32], k: usize) -> u32
+    ensures { λ r. ⌜ r ≡ getD (now (list .entry)) k 0 ⌝ }
+{
+    if k < list.len() { list[k] } else { 0 }
+}
+
 // The entries for setup: of each transaction the home and the priority that were read.
-pub(crate) fn entries_of(homes: &[u32]) -> [Entry; 32]
-    requires { ⌜ length (now homes) ≡ 2 * maxTxns ⌝ }
+pub fn entries_of(homes: &[u32]) -> [Entry; 32]
     ensures { λ r. ⌜ r ≡ entriesOf (now (homes .entry)) ⌝ }
 {
     let none = Entry {
@@ -291,8 +296,8 @@ pub(crate) fn entries_of(homes: &[u32]) -> [Entry; 32]
     let mut t: usize = 0;
     while t < 32 {
         entries[t] = Entry {
-            home: homes[2 * t],
-            priority: homes[2 * t + 1],
+            home: number_at(homes, 2 * t),
+            priority: number_at(homes, 2 * t + 1),
         };
         t += 1;
     }

@@ -1,10 +1,7 @@
 -- Each turn fills one entry from its two numbers.
-use Prim.Native.Nat.{ℕ, _-_, _*_, _+_}
-use mathlib.Core.Path.{_≡_}
-use native.Mathlib.Omega.{arith}
+use Prim.Native.Nat.{_-_, _*_, _+_}
 use lib.ListN.{getD}
-use Rattle.protocol.specs.declared.Entry.{Entry}
-use Rattle.scenario.specs.Format.{entriesOf}
+use Rattle.scenario.specs.Format.{entriesIn}
 use Rattle.scenario.proofs.Filling.{Filled, filled-none, filled-next, filled-all}
 use borrow.Author.Needs.{needs}
 use Rattle.scenario.proofs.reader.entries_of.Statement.{statement}
@@ -21,26 +18,20 @@ abbrev μ-loop : tie.MeasureT-loop
 loop-holds : tie.Need-loop-holds Inv-loop μ-loop
 loop-holds c = filled-none _ _ _ _ (search needs)
 
-mul-t6 : tie.Need-mul-t6 Inv-loop μ-loop
-mul-t6 c = search needs
+mul-number-at : tie.Need-mul-number-at Inv-loop μ-loop
+mul-number-at c = search needs
 
-mul-t7 : tie.Need-mul-t7 Inv-loop μ-loop
-mul-t7 c = search needs
+number-at-requires : tie.Need-number-at-requires Inv-loop μ-loop
+number-at-requires c κs = search needs
 
-shared-slice-read-t9 : tie.Need-shared-slice-read-t9 Inv-loop μ-loop
-shared-slice-read-t9 c = search needs
+mul-number-at-2 : tie.Need-mul-number-at-2 Inv-loop μ-loop
+mul-number-at-2 c = search needs
 
-mul-t10 : tie.Need-mul-t10 Inv-loop μ-loop
-mul-t10 c = search needs
+add-number-at : tie.Need-add-number-at Inv-loop μ-loop
+add-number-at c = search needs
 
-add-t11 : tie.Need-add-t11 Inv-loop μ-loop
-add-t11 c = search needs
-
-mul-t12 : tie.Need-mul-t12 Inv-loop μ-loop
-mul-t12 c = search needs
-
-shared-slice-read-t14 : tie.Need-shared-slice-read-t14 Inv-loop μ-loop
-shared-slice-read-t14 c = search needs
+number-at-requires-2 : tie.Need-number-at-requires-2 Inv-loop μ-loop
+number-at-requires-2 c κs = search needs
 
 mul-entries : tie.Need-mul-entries Inv-loop μ-loop
 mul-entries c = search needs
@@ -55,10 +46,12 @@ loop-less : tie.Need-loop-less Inv-loop μ-loop
 loop-less c = search needs
 
 loop-again : tie.Need-loop-again Inv-loop μ-loop
-loop-again c = filled-next _ _ _ (c .before .before .before .loop .inv) (c .before .before .loop-test .taken)
+loop-again c =
+    filled-next _ _ _ (c .before .before .before .loop .inv) (c .before .before .loop-test .taken)
+    (λ p. record { home = c .before .number-at .ensures p; priority = c .number-at2 .ensures p })
 
 returns : tie.Need-returns Inv-loop μ-loop
-unfolding entriesOf
+unfolding entriesIn
 returns c = filled-all _ _ _ (c .before .loop .inv) (c .loop-test .left)
 
 pub entries-of-spec : {M : Type 1} → statement M
@@ -68,13 +61,11 @@ entries-of-spec =
     Inv-loop
     μ-loop
     loop-holds
-    mul-t6
-    mul-t7
-    shared-slice-read-t9
-    mul-t10
-    add-t11
-    mul-t12
-    shared-slice-read-t14
+    mul-number-at
+    number-at-requires
+    mul-number-at-2
+    add-number-at
+    number-at-requires-2
     mul-entries
     array-set-from-entries
     add-t
