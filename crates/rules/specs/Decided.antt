@@ -15,7 +15,7 @@ use Rattle.protocol.specs.declared.State.{State}
 use Rattle.protocol.specs.declared.Stepped.{Stepped}
 
 -- both are what the definition says
-decided : {A : Type 0} {x y d : A} → x ≡ d → y ≡ d → x ≡ y
+pub decided : {A : Type 0} {x y d : A} → x ≡ d → y ≡ d → x ≡ y
 decided p q = p ∙ sym q
 
 pub setup-decided : (sites : ℕ) (table : List Entry) (x y : Started) → x ≡ setup sites table → y ≡ setup sites table → x ≡ y

@@ -7,3 +7,4 @@ pub mod Tables
 pub mod Commas
 pub mod Wanted
 pub mod RoundTrip
+pub mod Decided
