@@ -54,8 +54,8 @@ pub(crate) mod printer;
 pub mod reader;
 pub(crate) mod rehearsal;
 
-// The report of a text into lent bytes, whose others stay. Where they are too few nothing is written.
-pub fn report(text: &[u8], out: &mut [u8]) -> Reported
+// The report of a text by way of bytes of its own, as the lent ones may be too few.
+fn report_by_way(text: &[u8], out: &mut [u8]) -> Reported
     ensures { λ r. ⌜ (r ≡ reported (reportOf (now (text .entry))) (length (now (out .entry)))) × (now (out .exit) ≡ reportedIn (reportOf (now (text .entry))) (now (out .entry))) ⌝ }
 {
     let mut space = [0u8; REPORT_ROOM];
@@ -67,6 +67,21 @@ pub fn report(text: &[u8], out: &mut [u8]) -> Reported
         };
     }
     put_bytes(out, 0, &space[..n]);
+    Reported {
+        answer: ACCEPTED,
+        length: n,
+    }
+}
+
+// The report of a text into lent bytes, whose others stay. Where they are too few nothing is written. Lent bytes that
+// every report fits are written at once.
+pub fn report(text: &[u8], out: &mut [u8]) -> Reported
+    ensures { λ r. ⌜ (r ≡ reported (reportOf (now (text .entry))) (length (now (out .entry)))) × (now (out .exit) ≡ reportedIn (reportOf (now (text .entry))) (now (out .entry))) ⌝ }
+{
+    if out.len() < REPORT_ROOM {
+        return report_by_way(text, out);
+    }
+    let n = put_report(out, text);
     Reported {
         answer: ACCEPTED,
         length: n,
