@@ -5,18 +5,21 @@ use mathlib.Core.Path.{_≡_, refl, sym, ap, _∙_, subst}
 use mathlib.Core.Bool.{Bool, true, false, not, cond, _&&_, _||_, or-false}
 use mathlib.Core.List.{List, [], _∷_, _++_}
 use native.Mathlib.Omega.{arith}
-use lib.Dec.{leb}
+use lib.Dec.{ltb, leb}
 use lib.ListN.{getD}
 use borrow.Author.Tests.{ltb-true, leb-true, not-false}
 use Rattle.protocol.specs.Lists.{table, tableFrom}
+use Rattle.protocol.specs.State.{atHome}
 use Rattle.protocol.specs.Check.{Check, given, firstOf}
-use Rattle.protocol.specs.Answer.{actionOf, noAction, noSite, noTransaction, illFilled, wrongHome, wrongStatus, wrongMissing, messageThere, noMessage, lockClash, noScan, checksInRange}
+use Rattle.protocol.specs.Answer.{actionOf, noAction, noSite, noTransaction, illFilled, anywhere, homeTable, homeMet, wrongHome, wrongStatus, wrongMissing, messageThere, noMessage, lockClash, noScan, checksInRange}
 use Rattle.protocol.specs.declared.Event.{Event}
 use Rattle.protocol.specs.declared.State.{State}
 use Rattle.laws.specs.Enabled.{numbered}
 use Rattle.laws.specs.Tests.{both-left, both-right}
 use Rattle.laws.specs.Lists.{getD-table}
-use Rattle.rules.specs.Refusal.{misplacedBy, unless, refusalOf}
+use Rattle.rules.specs.Refusal.{misplacedBy, unless, receiveRefusal, refusalOf}
+use Rattle.rules.specs.Turn.{hereAt, toldOf}
+use Rattle.rules.specs.declared.Told.{Told}
 
 -- a known action has a number from 1 to 12
 pub known-number : (e : Event) → noAction e ≡ false → (1 ≤ e .action) × (e .action ≤ 12)
@@ -25,6 +28,18 @@ known-number e h =
     let a : ℕ = e .action in
     let known = not-false (leb 1 a && leb a 12) h in
     (leb-true 1 a (both-left (leb 1 a) (leb a 12) known), leb-true a 12 (both-right (leb 1 a) (leb a 12) known))
+
+-- what is the same for the actions 1 to 12 is the same for a known one
+pub by-number : {A : Type 0} (e : Event) → noAction e ≡ false → (f g : ℕ → A) (d : A)
+    → table 12 (λ k. f (suc k)) ≡ table 12 (λ k. g (suc k)) → f (e .action) ≡ g (e .action)
+by-number {A} e h f g d p =
+    let a : ℕ = e .action in
+    let n = known-number e h in
+    let back : suc (a - 1) ≡ a = omega arith in
+    let l : a - 1 < 12 = omega arith in
+    subst (λ (j : ℕ). f j ≡ g j) back
+    (sym (getD-table (λ j. f (suc j)) 12 (a - 1) d l) ∙ ap (λ (xs : List A). getD xs (a - 1) d) p
+    ∙ getD-table (λ j. g (suc j)) 12 (a - 1) d l)
 
 -- where a number of the first list applies, the second is not looked at
 first-stays : (l m : List Check) → (firstOf l ≡ 0 → ⊥) → firstOf (l ++ m) ≡ firstOf l
@@ -55,6 +70,26 @@ or-not : (a b : Bool) → (a || not b) ≡ not (not a && b)
 or-not true b = refl
 or-not false b = refl
 
+-- what is known once all that is asked of every event is well
+module _ (sites n : ℕ) (b : Bool) (e : Event) (h : misplacedBy sites n b e ≡ 0) where
+  well-placed : (not (ltb (e .site) sites) ≡ false) × (not (ltb (e .txn) n) ≡ false) × (illFilled sites e ≡ false)
+      × (not (homeMet (getD homeTable (e .action - 1) anywhere) b) ≡ false)
+  unfolding misplacedBy
+  well-placed = none-given _ _ _ _ h
+
+  pub placed : (e .site < sites) × (e .txn < n)
+  placed = (ltb-true _ _ (not-false _ (well-placed .0)), ltb-true _ _ (not-false _ (well-placed .1)))
+
+-- what is asked of every event, and what the action itself asks, by the state
+abbrev pub misplacedIn : State → Event → ℕ
+misplacedIn s e = misplacedBy (s .sites) (s .count) (atHome s (e .site) (e .txn)) e
+
+abbrev pub toldIn : State → Event → Told
+toldIn s e = toldOf e (s .count) (s .txns) (e .site) (e .txn) (hereAt s (e .site) (e .txn))
+
+abbrev pub refusalIn : State → Event → ℕ
+refusalIn s e = refusalOf (actionOf e) (toldIn s e .clash) (e .txn) (hereAt s (e .site) (e .txn))
+
 -- the checks that are made of every event, and those that the action itself makes
 abbrev placeChecks : State → Event → List Check
 placeChecks s e =
@@ -78,44 +113,24 @@ module _ (s : State) (e : Event) where
   unfolding checksInRange firstOf
   refused-unknown h = rw h
 
-  pub refused-misplaced : noAction e ≡ false → (misplacedBy s e ≡ 0 → ⊥) → firstOf (checksInRange s e) ≡ misplacedBy s e
-  unfolding checksInRange misplacedBy firstOf
+  pub refused-misplaced : noAction e ≡ false → (misplacedIn s e ≡ 0 → ⊥) → firstOf (checksInRange s e) ≡ misplacedIn s e
+  unfolding checksInRange misplacedBy noSite noTransaction wrongHome firstOf
   refused-misplaced h n = rw h (first-stays (placeChecks s e) (ownChecks s e) n)
-
-  -- what is known once all that is asked of every event is well
-  well-placed : misplacedBy s e ≡ 0
-      → (noSite s e ≡ false) × (noTransaction s e ≡ false) × (illFilled (s .sites) e ≡ false) × (wrongHome s e ≡ false)
-  unfolding misplacedBy
-  well-placed h = none-given _ _ _ _ h
-
-  pub placed : misplacedBy s e ≡ 0 → (e .site < s .sites) × (e .txn < s .count)
-  unfolding noSite noTransaction
-  placed h =
-      (ltb-true _ _ (not-false _ (well-placed h .0)), ltb-true _ _ (not-false _ (well-placed h .1)))
 
   abbrev checked : ℕ → ℕ
   checked a = firstOf (ownChecks s (numbered e a))
 
   abbrev refusing : ℕ → ℕ
-  refusing a = refusalOf (actionOf (numbered e a)) s (e .site) (e .txn)
+  refusing a = refusalIn s (numbered e a)
 
   -- the two are one number for the actions 1 to 12, all of which are computed at once
   twelve : table 12 (λ k. checked (suc k)) ≡ table 12 (λ k. refusing (suc k))
-  unfolding firstOf wrongStatus wrongMissing noMessage messageThere lockClash noScan actionOf refusalOf unless tableFrom
+  unfolding firstOf wrongStatus wrongMissing noMessage messageThere lockClash noScan actionOf toldOf refusalOf receiveRefusal unless tableFrom
   twelve = simp (cond-not, or-not, or-false)
 
-  one-of-twelve : (k : ℕ) → k < 12 → checked (suc k) ≡ refusing (suc k)
-  one-of-twelve k l =
-      sym (getD-table (λ j. checked (suc j)) 12 k 0 l) ∙ ap (λ (ns : List ℕ). getD ns k 0) twelve
-      ∙ getD-table (λ j. refusing (suc j)) 12 k 0 l
-
-  pub refused-by-action : noAction e ≡ false → misplacedBy s e ≡ 0
-      → firstOf (checksInRange s e) ≡ refusalOf (actionOf e) s (e .site) (e .txn)
-  unfolding checksInRange firstOf
+  pub refused-by-action : noAction e ≡ false → misplacedIn s e ≡ 0
+      → firstOf (checksInRange s e) ≡ refusalIn s e
+  unfolding checksInRange noSite noTransaction wrongHome firstOf
   refused-by-action h m =
-      let w = well-placed m in
-      let a : ℕ = e .action in
-      let n = known-number e h in
-      let back : suc (a - 1) ≡ a = omega arith in
-      rw (h, w .0, w .1, w .2, w .3)
-      (subst (λ (j : ℕ). checked j ≡ refusing j) back (one-of-twelve (a - 1) (omega arith)))
+      let w = well-placed _ _ _ e m in
+      rw (h, w .0, w .1, w .2, w .3) (by-number e h checked refusing 0 twelve)

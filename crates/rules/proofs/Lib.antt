@@ -5,5 +5,7 @@ pub mod EventList
 pub mod Fresh
 pub mod Loops
 pub mod Running
+pub mod Sent
 pub mod Shape
 pub mod Steps
+pub mod Turns

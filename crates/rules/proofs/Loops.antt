@@ -1,8 +1,8 @@
 -- Loops: where each kind of loop begins, what one turn does, and what it has done when it ends.
-use Prim.Native.Nat.{ℕ, _+_, _≤_, _<_}
-use mathlib.Core.Path.{_≡_, refl, sym, ap, _∙_, subst}
+use Prim.Native.Nat.{ℕ, zero, suc, _+_, _≤_, _<_}
+use mathlib.Core.Path.{_≡_, refl, sym, ap, ap₂, _∙_, subst}
 use mathlib.Core.Bool.{Bool, true, false, cond, _&&_, _||_}
-use mathlib.Core.List.{List}
+use mathlib.Core.List.{List, [], _∷_}
 use native.Mathlib.Nat.{le-antisymm}
 use native.Mathlib.Numerals.{add-one}
 use native.Mathlib.Omega.{arith}
@@ -10,8 +10,9 @@ use lib.Dec.{ltb}
 use lib.ListN.{length, getD, set, length-set}
 use lib.Seq.{getD-set-same, getD-set-other, ext-getD}
 use borrow.Author.Tests.{lt-ltb, le-ltb, ltb-true, ltb-false}
-use Rattle.sets.specs.Set.{with, withIn, those}
-use Rattle.protocol.specs.Lists.{each, allBelow, someBelow}
+use Rattle.sets.specs.Set.{has, none, isEmpty, with, withIn, those}
+use Rattle.sets.specs.Laws.{empty-none}
+use Rattle.protocol.specs.Lists.{eachFrom, each, storeAt, allBelow, someBelow}
 use Rattle.laws.specs.Tests.{Test, yes-so, not-so, test, Same, same, other, same?}
 use Rattle.laws.specs.Lists.{length-each, getD-each}
 
@@ -84,7 +85,27 @@ module _ {A : Type 0} (f : ℕ → A → A) where
       let i : j < length l = subst (λ (m : ℕ). j < m) (length-each (λ j x. cond (ltb j k) (f j x) x) l) g in
       at-written k l j d i (omega arith) ∙ sym (getD-each f l j d i))
 
+-- where f leaves every element, so does the loop
+pub from-same : {A : Type 0} (f : ℕ → A → A) → ((k : ℕ) (x : A) → f k x ≡ x) → (i : ℕ) (l : List A) → eachFrom i f l ≡ l
+unfolding eachFrom
+from-same f h i [] = refl
+from-same f h i (x ∷ l) = ap₂ _∷_ (h i x) (from-same f h (suc i) l)
+
+-- .. as a store into no place does
+pub stored-none : {A : Type 0} (m : ℕ) (v : A) (l : List A) → isEmpty m ≡ true → l ≡ storeAt m v l
+stored-none m v l h = sym (from-same (λ k x. cond (has m k) v x) (λ k x. rw (empty-none m k h)) 0 l)
+
 -- ---- a loop that collects those that pass a test
+
+pub those-none : (n : ℕ) (p : ℕ → Bool) → ((k : ℕ) → p k ≡ false) → those n p ≡ none
+unfolding those
+those-none zero p h = refl
+those-none (suc n) p h = rw (h n) (those-none n p h)
+
+pub some-none : (n : ℕ) (p : ℕ → Bool) → ((k : ℕ) → p k ≡ false) → someBelow n p ≡ false
+unfolding someBelow
+some-none zero p h = refl
+some-none (suc n) p h = rw (some-none n p h, h n)
 
 module _ (p : ℕ → Bool) where
   pub those-begun : 0 ≡ those 0 p

@@ -23,10 +23,10 @@ use Rattle.protocol.specs.declared.State.{State}
 use Rattle.protocol.specs.declared.Stepped.{Stepped}
 use Rattle.laws.specs.Tests.{Same, same, other, same?, both-left, both-right}
 use Rattle.laws.specs.Enabled.{step-done, step-refused}
-use Rattle.rules.specs.Refusal.{askedBy, misplacedBy, refusalOf}
+use Rattle.rules.specs.Refusal.{askedBy}
 use Rattle.rules.specs.declared.Asked.the-variants as asked
-use Rattle.rules.proofs.Bounds.{Known, few-times}
-use Rattle.rules.proofs.Checks.{placed, refused-unknown, refused-misplaced, refused-by-action}
+use Rattle.rules.proofs.Bounds.{few-times}
+use Rattle.rules.proofs.Checks.{misplacedIn, refusalIn, refused-unknown, refused-misplaced, refused-by-action}
 
 -- ---- how large the numbers can be
 
@@ -94,26 +94,23 @@ module _ (s : State) (e : Event) where
         let a : answer s e ≡ n = answer-is ∙ h in
         sym (step-refused s e (λ z. d (sym a ∙ z)) ∙ ap (λ (m : ℕ). refused m s) a)
 
-    pub in-table : misplacedBy s e ≡ 0 → Known s (e .site) (e .txn)
-    in-table m = (fine, placed s e m .0, placed s e m .1)
-
     pub step-unknown : noAction e ≡ true → refused 2 s ≡ step s e
     step-unknown h = refused-with 2 (λ z. omega arith) (refused-unknown s e h)
 
-    pub step-misplaced : noAction e ≡ false → (n : ℕ) → n ≡ misplacedBy s e → (n ≡ 0 → ⊥) → refused n s ≡ step s e
+    pub step-misplaced : noAction e ≡ false → (n : ℕ) → n ≡ misplacedIn s e → (n ≡ 0 → ⊥) → refused n s ≡ step s e
     step-misplaced h n p d = refused-with n d (refused-misplaced s e h (λ z. d (p ∙ z)) ∙ sym p)
 
-    module _ (known : noAction e ≡ false) (a : Action) (is-a : a ≡ actionOf e) (well : misplacedBy s e ≡ 0) where
-      own : firstOf (checksInRange s e) ≡ refusalOf a s (e .site) (e .txn)
-      own = rw is-a (refused-by-action s e known well)
+    module _ (known : noAction e ≡ false) (well : misplacedIn s e ≡ 0) where
+      own : firstOf (checksInRange s e) ≡ refusalIn s e
+      own = refused-by-action s e known well
 
-      pub step-not-enabled : (k : ℕ) → k ≡ refusalOf a s (e .site) (e .txn) → (k ≡ 0 → ⊥) → refused k s ≡ step s e
+      pub step-not-enabled : (k : ℕ) → k ≡ refusalIn s e → (k ≡ 0 → ⊥) → refused k s ≡ step s e
       step-not-enabled k p d = refused-with k d (own ∙ sym p)
 
-      pub step-enabled : refusalOf a s (e .site) (e .txn) ≡ 0 → (d : Done) → d ≡ effect a s (e .site) (e .txn)
+      pub step-enabled : refusalIn s e ≡ 0 → (d : Done) → d ≡ effect (actionOf e) s (e .site) (e .txn)
           → record { answer = 0; sent = d .sent; state = d .state } ≡ step s e
       unfolding done
-      step-enabled p d q = rw (q, is-a) (sym (step-done s e (answer-is ∙ own ∙ p)))
+      step-enabled p d q = rw q (sym (step-done s e (answer-is ∙ own ∙ p)))
 
 -- ---- which action the number asks for
 

@@ -1,4 +1,5 @@
 pub mod Copied
 pub mod Refusal
+pub mod Turn
 pub mod Events
 pub mod Decided

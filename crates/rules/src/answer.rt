@@ -1,14 +1,13 @@
 // What an event is answered in a state in range.
 ghost use mathlib.Core.Path.{_≡_};
-ghost use mathlib.Core.Bool.{true, false};
+ghost use mathlib.Core.Bool.{false};
 ghost use Prim.Native.Nat.{_-_, _<_, _≤_};
 ghost use lib.ListN.{getD};
-ghost use Rattle.protocol.specs.Range.{inRange};
 ghost use Rattle.protocol.specs.Answer.{messageOf, noAction, illKind, illFrom, illFilled, anywhere, homeTable, homeMet};
-ghost use Rattle.rules.specs.Refusal.{askedBy, misplacedBy, unless, refusalOf};
+ghost use Rattle.rules.specs.Refusal.{askedBy, misplacedBy, unless, receiveRefusal, refusalOf};
 use crate::Asked;
+use crate::Here;
 use crate::channel::lies;
-use crate::database::clash;
 use crate::row::status_in;
 use protocol::ABORTED;
 use protocol::ACCEPTED;
@@ -27,7 +26,6 @@ use protocol::NO_SITE;
 use protocol::NO_TRANSACTION;
 use protocol::PRE_COMMIT;
 use protocol::START;
-use protocol::State;
 use protocol::WRONG_HOME;
 use protocol::WRONG_MISSING;
 use protocol::WRONG_STATUS;
@@ -145,22 +143,20 @@ fn right_home(a: u32, here: bool) -> bool
 }
 
 // What is asked of every event whose action is known: 3 to 6, or 0 where all is well.
-pub(crate) fn misplaced(s: State, e: Event) -> u32
-    requires { ⌜ (inRange s ≡ true) × (noAction e ≡ false) ⌝ }
-    ensures { λ n. ⌜ n ≡ misplacedBy s e ⌝ }
+pub(crate) fn misplaced(sites: u32, count: u32, e: Event, here: bool) -> u32
+    requires { ⌜ noAction e ≡ false ⌝ }
+    ensures { λ n. ⌜ n ≡ misplacedBy sites count here e ⌝ }
 {
-    if s.sites <= e.site {
+    if sites <= e.site {
         return NO_SITE;
     }
-    if s.count <= e.txn {
+    if count <= e.txn {
         return NO_TRANSACTION;
     }
-    if ill_filled(s.sites, e) {
+    if ill_filled(sites, e) {
         return ILL_FILLED;
     }
-    let t = e.txn as usize;
-    let x = s.txns[t];
-    if right_home(e.action, x.home == e.site) {
+    if right_home(e.action, here) {
         ACCEPTED
     } else {
         WRONG_HOME
@@ -175,13 +171,14 @@ fn unless(b: bool, n: u32, m: u32) -> u32
 }
 
 // What a receive asks.
-fn receive_refusal(m: Message, s: State, i: usize, t: usize) -> u32
-    requires { ⌜ (inRange s ≡ true) × (i < s .sites) × (t < s .count) ⌝ }
-    ensures { λ n. ⌜ n ≡ refusalOf (Action.Receive m) s i t ⌝ }
+fn receive_refusal(m: Message, h: Here, t: usize) -> u32
+    requires { ⌜ t < 32 ⌝ }
+    ensures { λ k. ⌜ k ≡ receiveRefusal m h t ⌝ }
 {
-    let v = status_in(s.rows[i], t);
-    let x = s.txns[t];
-    let p = s.places[i];
+    let row = h.row;
+    let v = status_in(row, t);
+    let x = h.txn;
+    let p = h.place;
     let c = p.channel;
     let there = unless(lies(m, t, c), NO_MESSAGE, ACCEPTED);
     match m {
@@ -196,37 +193,27 @@ fn receive_refusal(m: Message, s: State, i: usize, t: usize) -> u32
     }
 }
 
-// What the end of an operation asks: no lock clash at home.
-fn end_refusal(s: State, i: usize, t: usize) -> u32
-    requires { ⌜ (inRange s ≡ true) × (i < s .sites) × (t < s .count) ⌝ }
-    ensures { λ n. ⌜ n ≡ refusalOf Action.EndOperation s i t ⌝ }
+// What the action itself asks of transaction t: 7 to 11, or 0 where it is enabled. An end of operation is told whether it
+// meets a lock clash at home.
+pub(crate) fn refusal(a: Action, clash: bool, t: usize, h: Here) -> u32
+    requires { ⌜ t < 32 ⌝ }
+    ensures { λ k. ⌜ k ≡ refusalOf a clash t h ⌝ }
 {
-    let row = s.rows[i];
-    let xs = s.txns;
-    let x = xs[t];
-    let free = !((x.home as usize == i) & clash(s.count as usize, xs, i, row, t));
-    unless(
-        status_in(row, t) == BLOCKED,
-        WRONG_STATUS,
-        unless(free, LOCK_CLASH, ACCEPTED),
-    )
-}
-
-// What the action itself asks at site i of transaction t: 7 to 11, or 0 where it is enabled.
-pub(crate) fn refusal(a: Action, s: State, i: usize, t: usize) -> u32
-    requires { ⌜ (inRange s ≡ true) × (i < s .sites) × (t < s .count) ⌝ }
-    ensures { λ n. ⌜ n ≡ refusalOf a s i t ⌝ }
-{
-    let v = status_in(s.rows[i], t);
-    let x = s.txns[t];
-    let p = s.places[i];
+    let row = h.row;
+    let v = status_in(row, t);
+    let x = h.txn;
+    let p = h.place;
     match a {
         Action::Create => unless(v == START, WRONG_STATUS, ACCEPTED),
         Action::BeginOperation {
             reads: _,
             writes: _,
         } => unless(v == ACTIVE, WRONG_STATUS, ACCEPTED),
-        Action::EndOperation => end_refusal(s, i, t),
+        Action::EndOperation => unless(
+            v == BLOCKED,
+            WRONG_STATUS,
+            unless(!clash, LOCK_CLASH, ACCEPTED),
+        ),
         Action::BeginCommit => unless(v == ACTIVE, WRONG_STATUS, ACCEPTED),
         Action::EndCommit => unless(
             v == PRE_COMMIT,
@@ -234,7 +221,7 @@ pub(crate) fn refusal(a: Action, s: State, i: usize, t: usize) -> u32
             unless(sets::is_empty(x.missing), WRONG_MISSING, ACCEPTED),
         ),
         Action::LocalAbort => unless(v == BLOCKED, WRONG_STATUS, ACCEPTED),
-        Action::Receive(m) => receive_refusal(m, s, i, t),
+        Action::Receive(m) => receive_refusal(m, h, t),
         Action::ExecuteRemote => unless(!sets::is_empty(p.queue) & p.remove, NO_SCAN, ACCEPTED),
         Action::Discard(m) => {
             let c = p.channel;

@@ -2,8 +2,9 @@
 ghost use mathlib.Core.Path.{_≡_};
 ghost use mathlib.Core.Bool.{cond};
 ghost use Prim.Native.Nat.{_<_};
-ghost use Rattle.sets.specs.Set.{has, none};
+ghost use Rattle.sets.specs.Set.{has, none, allBut};
 ghost use Rattle.protocol.specs.State.{withChannel};
+ghost use Rattle.rules.specs.Turn.{readied};
 ghost use Rattle.protocol.specs.Channel.{lies, taken, put, received, readyWith, delivered, homedAt};
 use protocol::Channel;
 use protocol::Message;
@@ -120,45 +121,65 @@ fn meant(sites: u32, ts: u32, j: usize) -> u32
 }
 
 // The message about each transaction of ts sent to each of these sites.
-pub(crate) fn multicast(m: Message, sites: u32, ts: u32, ps: [Place; SITES]) -> [Place; SITES]
+fn multicast(m: Message, sites: u32, ts: u32, ps: [Place; SITES]) -> [Place; SITES]
     ensures { λ qs. ⌜ qs ≡ delivered m (λ j. cond (has sites j) ts none) ps ⌝ }
 {
     let mut qs = ps;
     let mut j = 0usize;
     while j < SITES {
-        qs[j] = reached(m, meant(sites, ts, j), qs[j]);
+        let about = meant(sites, ts, j);
+        if !sets::is_empty(about) {
+            qs[j] = reached(m, about, qs[j]);
+        }
         j = j + 1;
     }
     qs
 }
 
-// Those of ts that have their home at j.
-fn homed_at(xs: [Txn; 32], ts: u32, j: usize) -> u32
-    ensures { λ m. ⌜ m ≡ homedAt xs ts j ⌝ }
+// Site p with a ready from site i about t in its channel.
+fn readied(i: usize, t: usize, p: Place) -> Place
+    requires { ⌜ t < 32 ⌝ }
+    ensures { λ q. ⌜ q ≡ withChannel p (readied i t (p .channel)) ⌝ }
 {
-    let mut them = 0u32;
-    let mut t = 0usize;
-    while t < 32 {
-        let x = xs[t];
-        if sets::has(ts, t) & (x.home as usize == j) {
-            them = sets::with(them, t);
-        }
-        t = t + 1;
-    }
-    them
+    let mut c = p.channel;
+    c.ready[t] = sets::with(c.ready[t], i);
+    let mut q = p;
+    q.channel = c;
+    q
 }
 
 // Ready from site i about each transaction of ts sent to its home.
-pub(crate) fn ready_home(i: usize, ts: u32, xs: [Txn; 32], ps: [Place; SITES]) -> [Place; SITES]
-    requires { ⌜ i < 32 ⌝ }
+fn ready_home(i: usize, ts: u32, xs: [Txn; 32], ps: [Place; SITES]) -> [Place; SITES]
     ensures { λ qs. ⌜ qs ≡ delivered (Message.Ready i) (homedAt xs ts) ps ⌝ }
 {
-    let m = Message::Ready(i as u32);
     let mut qs = ps;
-    let mut j = 0usize;
-    while j < SITES {
-        qs[j] = reached(m, homed_at(xs, ts, j), qs[j]);
-        j = j + 1;
+    let mut t = 0usize;
+    while t < 32 {
+        if sets::has(ts, t) {
+            let x = xs[t];
+            let j = x.home as usize;
+            if j < SITES {
+                qs[j] = readied(i, t, qs[j]);
+            }
+        }
+        t = t + 1;
     }
     qs
+}
+
+// The messages of a turn at site i: the message about each transaction of ts to all other sites, and ready about each of rs
+// to its home.
+pub(crate) fn posted(
+    i: usize,
+    m: Message,
+    ts: u32,
+    rs: u32,
+    sites: u32,
+    xs: [Txn; 32],
+    ps: [Place; SITES],
+) -> [Place; SITES]
+    ensures { λ qs. ⌜ qs ≡ delivered (Message.Ready i) (homedAt xs rs) (delivered m (λ j. cond (has (allBut sites i) j) ts none) ps) ⌝ }
+{
+    let told = multicast(m, sets::all_but(sites as usize, i), ts, ps);
+    ready_home(i, rs, xs, told)
 }

@@ -85,8 +85,11 @@ pub(crate) fn conflicts(n: usize, xs: [Txn; 32], i: usize, r: Row, t: usize) -> 
     let mut them = 0u32;
     let mut u = 0usize;
     while u < n {
-        if (u != t) & conflicts_with(x, xs[u], i, status_in(r, u)) {
-            them = sets::with(them, u);
+        let v = status_in(r, u);
+        if executes(v) {
+            if (u != t) & conflicts_with(x, xs[u], i, v) {
+                them = sets::with(them, u);
+            }
         }
         u = u + 1;
     }

@@ -28,9 +28,11 @@ pub(crate) fn highest(xs: [Txn; 32], q: u32) -> usize
     let mut best = 32usize;
     let mut u = 0usize;
     while u < 32 {
-        let k = rival(best, u);
-        if sets::has(q, u) & ((best == 32) | outranks(xs[u], xs[k])) {
-            best = u;
+        if sets::has(q, u) {
+            let k = rival(best, u);
+            if (best == 32) | outranks(xs[u], xs[k]) {
+                best = u;
+            }
         }
         u = u + 1;
     }

@@ -28,6 +28,9 @@ pub(crate) fn row_with(r: Row, t: usize, v: u8) -> Row
 pub(crate) fn store_at(m: u32, v: u8, l: [u8; 32]) -> [u8; 32]
     ensures { λ n. ⌜ n ≡ storeAt m v l ⌝ }
 {
+    if sets::is_empty(m) {
+        return l;
+    }
     let mut n = l;
     let mut k = 0usize;
     while k < 32 {

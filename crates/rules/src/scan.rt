@@ -52,6 +52,9 @@ fn asked(n: usize, r: Row, them: u32) -> u32
     requires { ⌜ n ≤ 32 ⌝ }
     ensures { λ m. ⌜ m ≡ asked n r them ⌝ }
 {
+    if sets::is_empty(them) {
+        return 0;
+    }
     let mut found = 0u32;
     let mut u = 0usize;
     while u < n {
@@ -81,12 +84,15 @@ fn submits(n: usize, t: usize, them: u32, c: Scan) -> Scan
     d
 }
 
-// What happens to one queued transaction whose conflicts are known.
+// What happens to one queued transaction whose conflicts are known: without any it is submitted at once.
 fn scan_with(n: usize, xs: [Txn; 32], i: usize, t: usize, them: u32, c: Scan) -> Scan
     requires { ⌜ (n ≤ 32) × (t < 32) ⌝ }
     ensures { λ d. ⌜ d ≡ scanWith n xs i t them c ⌝ }
 {
     let row = c.row;
+    if sets::is_empty(them) {
+        return submits(n, t, them, c);
+    }
     if must_wait(n, xs, i, row, t, them) {
         waits(t, c)
     } else {
@@ -104,7 +110,8 @@ fn scan_one(n: usize, xs: [Txn; 32], i: usize, t: usize, c: Scan) -> Scan
     scan_with(n, xs, i, t, them, c)
 }
 
-// The whole rest of the queue: the highest is taken, and then what is left of it.
+// The whole rest of the queue: the highest is taken, and then what is left of it. Where nothing is left the table is not
+// handed on once more.
 pub(crate) fn scan_all(n: usize, xs: [Txn; 32], i: usize, c: Scan) -> Scan
     requires { ⌜ n ≤ 32 ⌝ }
     ensures { λ d. ⌜ d ≡ scanAll n xs i c ⌝ }
@@ -114,6 +121,10 @@ pub(crate) fn scan_all(n: usize, xs: [Txn; 32], i: usize, c: Scan) -> Scan
     } else {
         let t = highest(xs, c.rest);
         let next = scan_one(n, xs, i, t, c);
-        scan_all(n, xs, i, next)
+        if sets::is_empty(next.rest) {
+            next
+        } else {
+            scan_all(n, xs, i, next)
+        }
     }
 }

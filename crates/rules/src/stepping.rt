@@ -1,64 +1,60 @@
-// What an event returns.
+// The turn of an event: its answer and what it leaves of the parts that it reads.
 ghost use mathlib.Core.Path.{_≡_};
-ghost use mathlib.Core.Bool.{true, false};
-ghost use Prim.Native.Nat.{_≤_};
-ghost use Rattle.protocol.specs.Range.{inRange};
-ghost use Rattle.protocol.specs.Answer.{noAction, actionOf, refused, step};
+ghost use mathlib.Core.Bool.{false};
+ghost use Prim.Native.Nat.{ℕ, _<_, _≤_};
+ghost use lib.ListN.{getD};
+ghost use Rattle.protocol.specs.Answer.{noAction};
+ghost use Rattle.rules.specs.Turn.{indexOf, turnFor, turnOf};
 use crate::Asked;
+use crate::Here;
+use crate::Told;
+use crate::Turn;
 use crate::answer::asked;
 use crate::answer::misplaced;
 use crate::answer::refusal;
 use crate::figure::effect;
+use crate::figure::quiet;
 use protocol::ACCEPTED;
 use protocol::Action;
 use protocol::Event;
 use protocol::NO_ACTION;
-use protocol::State;
-use protocol::Stepped;
 
-// What an event returns that is refused with number n.
-pub(crate) fn refused(n: u32, state: State) -> Stepped
-    ensures { λ r. ⌜ r ≡ refused n state ⌝ }
+// k where it is below n, else 0: an index that is in place whatever an event names.
+pub(crate) fn index(k: u32, n: u32) -> usize
+    ensures { λ r. ⌜ r ≡ indexOf k n ⌝ }
 {
-    Stepped {
-        answer: n,
-        sent: 0,
-        state,
-    }
+    if k < n { k as usize } else { 0 }
 }
 
-// What an event returns whose number asks for action a. The bounds let a run add up the messages.
-fn tried(s: State, e: Event, a: Action) -> Stepped
-    requires { ⌜ (inRange s ≡ true) × (noAction e ≡ false) × (a ≡ actionOf e) ⌝ }
-    ensures { λ r. ⌜ (r ≡ step s e) × (r .answer ≤ 11) × (r .sent ≤ 1056) ⌝ }
+// The turn of an event whose number asks for action a.
+fn tried(a: Action, e: Event, sites: u32, count: u32, told: Told, h: Here) -> Turn
+    requires { ⌜ (noAction e ≡ false) × (count ≤ 32) × ((o : ℕ) → o < 32 → getD (h .place .versions) o 0 < 255) ⌝ }
+    ensures { λ d. ⌜ d ≡ turnFor a e sites count told h ⌝ }
 {
-    let n = misplaced(s, e);
-    if n != ACCEPTED {
-        return refused(n, s);
+    let x = h.txn;
+    let k = misplaced(sites, count, e, x.home == e.site);
+    if k != ACCEPTED {
+        return quiet(k, h);
     }
     let i = e.site as usize;
     let t = e.txn as usize;
-    let k = refusal(a, s, i, t);
-    if k != ACCEPTED {
-        return refused(k, s);
+    let j = refusal(a, told.clash, t, h);
+    if j != ACCEPTED {
+        return quiet(j, h);
     }
-    let d = effect(a, s, i, t);
-    let state = d.state;
-    Stepped {
-        answer: ACCEPTED,
-        sent: d.sent,
-        state,
-    }
+    let scan = told.scan;
+    effect(a, h, sets::all_but(sites as usize, i), scan, i, t)
 }
 
-// What an event returns in a state in range.
-pub(crate) fn step_in(s: State, e: Event) -> Stepped
-    requires { ⌜ inRange s ≡ true ⌝ }
-    ensures { λ r. ⌜ (r ≡ step s e) × (r .answer ≤ 11) × (r .sent ≤ 1056) ⌝ }
+// The turn of an event among so many sites and transactions, where h is what stands at its site and its transaction, and
+// `told` is what the table told it.
+pub(crate) fn turn_of(e: Event, sites: u32, count: u32, told: Told, h: Here) -> Turn
+    requires { ⌜ (count ≤ 32) × ((o : ℕ) → o < 32 → getD (h .place .versions) o 0 < 255) ⌝ }
+    ensures { λ d. ⌜ d ≡ turnOf e sites count told h ⌝ }
 {
     let k = asked(e);
     match k {
-        Asked::Known(a) => tried(s, e, a),
-        Asked::Unknown => refused(NO_ACTION, s),
+        Asked::Known(a) => tried(a, e, sites, count, told, h),
+        Asked::Unknown => quiet(NO_ACTION, h),
     }
 }

@@ -1,33 +1,14 @@
 -- Each arm asks what the definition asks of its kind of message.
 use borrow.Author.Needs.{needs}
-use Rattle.rules.specs.Refusal.{refusalOf}
-use Rattle.rules.proofs.Bounds.{known-below}
+use Rattle.rules.specs.Refusal.{receiveRefusal}
 use Rattle.rules.proofs.answer.receive_refusal.Statement.{statement}
 use Rattle.rules.proofs.answer.receive_refusal.Tie as tie
 
-mul-status-in : tie.Need-mul-status-in
-mul-status-in c = search needs
-
-element-copy-out-status-in : tie.Need-element-copy-out-status-in
-element-copy-out-status-in c = known-below _ _ _ (c .pre) .0
-
 status-in-requires : tie.Need-status-in-requires
-status-in-requires c κs = known-below _ _ _ (c .before .pre) .1
-
-mul-x : tie.Need-mul-x
-mul-x c = search needs
-
-element-copy-out-x : tie.Need-element-copy-out-x
-element-copy-out-x c = known-below _ _ _ (c .before .before .pre) .1
-
-mul-p : tie.Need-mul-p
-mul-p c = search needs
-
-element-copy-out-p : tie.Need-element-copy-out-p
-element-copy-out-p c = known-below _ _ _ (c .before .before .before .pre) .0
+status-in-requires c κs = search needs
 
 lies-requires : tie.Need-lies-requires
-lies-requires c κs = known-below _ _ _ (c .before .before .before .before .before .pre) .1
+lies-requires c κs = search needs
 
 unless-requires : tie.Need-unless-requires
 unless-requires c κs = search needs
@@ -63,7 +44,7 @@ unless-requires-6 : tie.Need-unless-requires-6
 unless-requires-6 c κs = search needs
 
 returns : tie.Need-returns
-unfolding refusalOf
+unfolding receiveRefusal
 returns c =
     rw (
       c .unless2 .ensures,
@@ -74,7 +55,7 @@ returns c =
     )
 
 returns-2 : tie.Need-returns-2
-unfolding refusalOf
+unfolding receiveRefusal
 returns-2 c =
     rw (
       c .unless4 .ensures,
@@ -87,7 +68,7 @@ returns-2 c =
     )
 
 returns-3 : tie.Need-returns-3
-unfolding refusalOf
+unfolding receiveRefusal
 returns-3 c =
     rw (
       c .unless5 .ensures,
@@ -98,7 +79,7 @@ returns-3 c =
     )
 
 returns-4 : tie.Need-returns-4
-unfolding refusalOf
+unfolding receiveRefusal
 returns-4 c =
     rw (
       c .unless6 .ensures,
@@ -112,13 +93,7 @@ pub receive-refusal-spec : {M : Type 1} → statement M
 receive-refusal-spec =
     tie.close
     (tie.spec
-    mul-status-in
-    element-copy-out-status-in
     status-in-requires
-    mul-x
-    element-copy-out-x
-    mul-p
-    element-copy-out-p
     lies-requires
     unless-requires
     enum-told

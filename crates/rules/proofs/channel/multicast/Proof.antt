@@ -1,14 +1,17 @@
 -- The first j sites have what the definition puts there, and a turn puts it into the next.
 use Prim.Native.Nat.{_-_, _≤_}
-use mathlib.Core.Path.{_≡_}
+use mathlib.Core.Path.{_≡_, sym, ap, _∙_}
+use mathlib.Core.Logic.{⊎-elim}
 use mathlib.Core.Bool.{cond}
 use native.Mathlib.Omega.{arith}
-use lib.ListN.{length}
+use lib.ListN.{length, getD}
 use borrow.Author.Needs.{needs}
-use Rattle.sets.specs.Set.{has, none}
+use borrow.Author.Tests.{not-false}
+use Rattle.sets.specs.Set.{has, none, isEmpty}
 use Rattle.protocol.specs.State.{noPlace, withChannel}
 use Rattle.protocol.specs.Channel.{put, delivered}
-use Rattle.rules.proofs.Loops.{eachTo, each-begun, each-again, each-ended}
+use Rattle.rules.proofs.Loops.{eachTo, each-begun, each-again, each-passed, each-ended}
+use Rattle.rules.proofs.Sent.{put-empty}
 use Rattle.rules.proofs.channel.multicast.Statement.{statement}
 use Rattle.rules.proofs.channel.multicast.Tie as tie
 
@@ -24,6 +27,9 @@ loop-holds c = (search needs, search needs, each-begun _ noPlace _)
 
 meant-requires : tie.Need-meant-requires Inv-loop μ-loop
 meant-requires c κs = search needs
+
+is-empty-requires : tie.Need-is-empty-requires Inv-loop μ-loop
+is-empty-requires c κs = search needs
 
 mul-reached : tie.Need-mul-reached Inv-loop μ-loop
 mul-reached c = search needs
@@ -47,12 +53,20 @@ loop-less : tie.Need-loop-less Inv-loop μ-loop
 loop-less c = search needs
 
 loop-again : tie.Need-loop-again Inv-loop μ-loop
-loop-again c = (
-  search needs,
-  search needs,
-  each-again _ noPlace _ _ _ _ (c .before .before .before .before .loop .inv .2) (omega arith)
-      (rw (c .reached .ensures, c .before .before .meant .ensures)),
-)
+loop-again c =
+    let l = c .before .before .before .before .loop in
+    let a = c .before .before .before .before .before .args in
+    let m = c .before .before .meant .ensures in (
+      search needs,
+      search needs,
+      ⊎-elim (λ w. w .3 ∙ each-again _ noPlace _ _ _ _ (l .inv .2) (omega arith) (rw (← m) (w .2 .ensures)))
+          (λ w.
+          w .1
+          ∙ each-passed _ noPlace _ _ _ (l .inv .2) (omega arith)
+          (rw (put-empty (a .m) _ (getD (a .ps) (l .j) noPlace .channel)
+          (sym (c .before .is-empty .ensures ∙ ap isEmpty m) ∙ not-false _ (w .0 .left)))))
+          (c .if1 .came),
+    )
 
 returns : tie.Need-returns Inv-loop μ-loop
 unfolding delivered
@@ -66,6 +80,7 @@ multicast-spec =
     μ-loop
     loop-holds
     meant-requires
+    is-empty-requires
     mul-reached
     array-copy-out-reached
     reached-requires

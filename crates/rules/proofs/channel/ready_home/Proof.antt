@@ -1,39 +1,47 @@
--- The first j sites have what the definition puts there, and a turn puts it into the next.
+-- The ready messages about the transactions below t have gone out, and a turn sends one more or none.
 use Prim.Native.Nat.{_-_, _≤_}
-use mathlib.Core.Path.{_≡_}
+use mathlib.Core.Path.{_≡_, refl, sym, _∙_}
+use mathlib.Core.Logic.{⊎-elim}
 use native.Mathlib.Omega.{arith}
-use lib.ListN.{length}
 use borrow.Author.Needs.{needs}
-use Rattle.protocol.specs.State.{noPlace, withChannel}
-use Rattle.protocol.specs.Channel.{put, homedAt, delivered}
-use Rattle.rules.proofs.Loops.{eachTo, each-begun, each-again, each-ended}
+use borrow.Author.Tests.{ne-eqb}
+use lib.ListN.{length}
+use Rattle.protocol.specs.State.{txnIn}
+use Rattle.protocol.specs.Channel.{homedAt}
+use Rattle.rules.proofs.Loops.{ended}
+use Rattle.rules.proofs.Sent.{readiedTo, readied-begun, readied-passed, readied-turned}
 use Rattle.rules.proofs.channel.ready_home.Statement.{statement}
 use Rattle.rules.proofs.channel.ready_home.Tie as tie
 
 abbrev Inv-loop : tie.InvT-loop
-Inv-loop i ts xs m qs₀ j₀ qs j =
-    (j ≤ 8) × (length qs₀ ≡ 8) × (qs ≡ eachTo (λ k p. withChannel p (put m (homedAt xs ts k) (p .channel))) j qs₀)
+Inv-loop i ts xs qs₀ t₀ qs t = (t ≤ 32) × (length qs₀ ≡ 8) × (qs ≡ readiedTo i xs ts t qs₀)
 
 abbrev μ-loop : tie.MeasureT-loop
-μ-loop i ts xs m qs₀ j₀ qs j = 8 - j
-
-cast-t8 : tie.Need-cast-t8 Inv-loop μ-loop
-cast-t8 c = search needs
+μ-loop i ts xs qs₀ t₀ qs t = 32 - t
 
 loop-holds : tie.Need-loop-holds Inv-loop μ-loop
-loop-holds c = (search needs, search needs, each-begun _ noPlace _)
+loop-holds c = (search needs, search needs, readied-begun (c .args .i) (c .args .t3) (c .args .ts) (c .args .ps))
 
-homed-at-requires : tie.Need-homed-at-requires Inv-loop μ-loop
-homed-at-requires c κs = search needs
+has-requires : tie.Need-has-requires Inv-loop μ-loop
+has-requires c κs = search needs
 
-mul-reached : tie.Need-mul-reached Inv-loop μ-loop
-mul-reached c = search needs
+mul-x : tie.Need-mul-x Inv-loop μ-loop
+mul-x c = search needs
 
-array-copy-out-reached : tie.Need-array-copy-out-reached Inv-loop μ-loop
-array-copy-out-reached c = search needs
+array-copy-out-x : tie.Need-array-copy-out-x Inv-loop μ-loop
+array-copy-out-x c = search needs
 
-reached-requires : tie.Need-reached-requires Inv-loop μ-loop
-reached-requires c κs = search needs
+cast-j : tie.Need-cast-j Inv-loop μ-loop
+cast-j c = search needs
+
+mul-readied : tie.Need-mul-readied Inv-loop μ-loop
+mul-readied c = search needs
+
+array-copy-out-readied : tie.Need-array-copy-out-readied Inv-loop μ-loop
+array-copy-out-readied c = search needs
+
+readied-requires : tie.Need-readied-requires Inv-loop μ-loop
+readied-requires c κs = search needs
 
 mul-qs : tie.Need-mul-qs Inv-loop μ-loop
 mul-qs c = search needs
@@ -41,23 +49,41 @@ mul-qs c = search needs
 array-set-from-qs : tie.Need-array-set-from-qs Inv-loop μ-loop
 array-set-from-qs c = search needs
 
-add-j : tie.Need-add-j Inv-loop μ-loop
-add-j c = search needs
+add-t : tie.Need-add-t Inv-loop μ-loop
+add-t c = search needs
 
 loop-less : tie.Need-loop-less Inv-loop μ-loop
 loop-less c = search needs
 
 loop-again : tie.Need-loop-again Inv-loop μ-loop
-loop-again c = (
-  search needs,
-  search needs,
-  each-again _ noPlace _ _ _ _ (c .before .before .before .before .loop .inv .2) (omega arith)
-      (rw (c .reached .ensures, c .before .before .homed-at .ensures)),
-)
+loop-again c =
+    let l = c .before .before .before .loop in
+    let a = c .before .before .before .before .args in
+    let h = sym (c .before .has .ensures) in (
+      search needs,
+      search needs,
+      ⊎-elim
+          (λ w.
+          w .6
+          ∙ readied-turned (a .i) (a .t3) (a .ts) (l .t) (l .qs) (a .ps) (l .inv .2) _ refl
+          (omega (arith, w .3 .taken, l .inv .1)) (c .before .before .loop-test .taken) (h ∙ w .0 .taken) _ (w .5 .ensures))
+          (⊎-elim
+          (λ w.
+          w .4
+          ∙ readied-passed (a .i) (a .t3) (a .ts) (l .t) (l .qs) (a .ps) (l .inv .2)
+          (λ j g. rw (h ∙ w .0 .taken, ne-eqb (txnIn (a .t3) (l .t) .home) j (λ z. omega (arith, w .3 .left, g, z, l .inv .1)))))
+          (λ w.
+          w .1
+          ∙ readied-passed (a .i) (a .t3) (a .ts) (l .t) (l .qs) (a .ps) (l .inv .2) (λ j g. rw (h ∙ w .0 .left))))
+          (c .if1 .came),
+    )
 
 returns : tie.Need-returns Inv-loop μ-loop
-unfolding delivered
-returns c = each-ended _ noPlace _ _ _ (c .before .loop .inv .2) (omega arith)
+unfolding homedAt
+returns c =
+    let a = c .before .before .args in
+    ended (λ k. readiedTo (a .i) (a .t3) (a .ts) k (a .ps)) (c .before .loop .qs) (c .before .loop .t) 32
+    (c .before .loop .inv .0) (omega arith) (c .before .loop .inv .2)
 
 pub ready-home-spec : {M : Type 1} → statement M
 ready-home-spec =
@@ -65,15 +91,17 @@ ready-home-spec =
     (tie.spec
     Inv-loop
     μ-loop
-    cast-t8
     loop-holds
-    homed-at-requires
-    mul-reached
-    array-copy-out-reached
-    reached-requires
+    has-requires
+    mul-x
+    array-copy-out-x
+    cast-j
+    mul-readied
+    array-copy-out-readied
+    readied-requires
     mul-qs
     array-set-from-qs
-    add-j
+    add-t
     loop-less
     loop-again
     returns)

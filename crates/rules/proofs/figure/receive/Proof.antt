@@ -1,4 +1,4 @@
--- Each arm is the effect of receiving its kind of message.
+-- Each arm receives its kind of message.
 use borrow.Author.Needs.{needs}
 use Rattle.rules.proofs.figure.receive.Statement.{statement}
 use Rattle.rules.proofs.figure.receive.Tie as tie

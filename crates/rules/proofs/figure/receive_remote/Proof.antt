@@ -1,14 +1,8 @@
--- The site without the message gets its queue and flag in one store, as in the definition.
+-- The site without the message has the larger queue.
 use borrow.Author.Needs.{needs}
-use Rattle.protocol.specs.Figure.{effect}
+use Rattle.rules.specs.Turn.{receives}
 use Rattle.rules.proofs.figure.receive_remote.Statement.{statement}
 use Rattle.rules.proofs.figure.receive_remote.Tie as tie
-
-mul-received : tie.Need-mul-received
-mul-received c = search needs
-
-element-copy-out-received : tie.Need-element-copy-out-received
-element-copy-out-received c = search needs
 
 received-requires : tie.Need-received-requires
 received-requires c κs = search needs
@@ -16,28 +10,12 @@ received-requires c κs = search needs
 with-requires : tie.Need-with-requires
 with-requires c κs = search needs
 
-mul-p : tie.Need-mul-p
-mul-p c = search needs
-
-element-set-from-p : tie.Need-element-set-from-p
-element-set-from-p c = search needs
-
-silent-requires : tie.Need-silent-requires
-silent-requires c κs = search needs
+quiet-requires : tie.Need-quiet-requires
+quiet-requires c κs = search needs
 
 returns : tie.Need-returns
-unfolding effect
-returns c = rw (c .silent .ensures, c .before .with .ensures, c .before .before .received .ensures)
+unfolding receives
+returns c = rw (c .quiet .ensures, c .before .with .ensures, c .before .before .received .ensures)
 
 pub receive-remote-spec : {M : Type 1} → statement M
-receive-remote-spec =
-    tie.close
-    (tie.spec
-    mul-received
-    element-copy-out-received
-    received-requires
-    with-requires
-    mul-p
-    element-set-from-p
-    silent-requires
-    returns)
+receive-remote-spec = tie.close (tie.spec received-requires with-requires quiet-requires returns)

@@ -2,7 +2,7 @@
 use Prim.Native.Nat.{ℕ, _+_, _-_, _≤_}
 use mathlib.Core.Bool.{Bool, true, false, cond, _&&_, _||_}
 use mathlib.Core.List.{List}
-use mathlib.Core.Path.{_≡_, refl, _∙_}
+use mathlib.Core.Path.{_≡_, refl, sym, _∙_}
 use mathlib.Core.Logic.{⊎-elim}
 use native.Mathlib.Numerals.{add-one}
 use native.Mathlib.Omega.{arith}
@@ -28,6 +28,11 @@ unfolding highestBelow higherOf
 turned xs q u best k b c e h r o =
     rw (add-one u, ← e, h, o, r, rival-stands (eqb best 32) (λ j. outranks (txnIn xs u) (txnIn xs j)) u best)
 
+-- one that is not in the queue is passed over
+passed : (xs : List Txn) (q u best : ℕ) → best ≡ highestBelow u xs q → has q u ≡ false → best ≡ highestBelow (u + 1) xs q
+unfolding highestBelow higherOf
+passed xs q u best e h = rw (add-one u, h) e
+
 abbrev Inv-loop : tie.InvT-loop
 Inv-loop q xs best₀ u₀ best u = (u ≤ 32) × (best ≤ 32) × (best ≡ highestBelow u xs q)
 
@@ -38,11 +43,11 @@ loop-holds : tie.Need-loop-holds Inv-loop μ-loop
 unfolding highestBelow
 loop-holds c = (search needs, search needs, refl)
 
-rival-requires : tie.Need-rival-requires Inv-loop μ-loop
-rival-requires c κs = search needs
-
 has-requires : tie.Need-has-requires Inv-loop μ-loop
 has-requires c κs = search needs
+
+rival-requires : tie.Need-rival-requires Inv-loop μ-loop
+rival-requires c κs = search needs
 
 mul-outranks : tie.Need-mul-outranks Inv-loop μ-loop
 mul-outranks c = search needs
@@ -67,13 +72,14 @@ loop-less c = search needs
 
 loop-again : tie.Need-loop-again Inv-loop μ-loop
 loop-again c =
-    let e = c .before .before .before .before .before .before .before .loop .inv .2 in
-    let h = c .before .before .before .before .has .ensures in
-    let r = c .before .before .before .before .before .rival .ensures .1 in
-    let n = turned _ _ _ _ _ _ _ e h r (c .before .outranks .ensures) in (
+    let e = c .before .before .before .loop .inv .2 in
+    let h = c .before .has .ensures in (
       search needs,
-      ⊎-elim (λ w. omega arith) (λ w. omega arith) (c .if1 .came),
-      ⊎-elim (λ w. w .1 ∙ rw (n, w .0 .taken)) (λ w. w .1 ∙ rw (n, w .0 .left)) (c .if1 .came),
+      ⊎-elim (λ w. omega (arith, w .6)) (⊎-elim (λ w. omega (arith, w .6)) (λ w. omega (arith, w .1))) (c .if1 .came),
+      ⊎-elim (λ w. w .6 ∙ rw (turned _ _ _ _ _ _ _ e h (w .1 .ensures .1) (w .4 .ensures), w .0 .taken, w .5 .taken))
+          (⊎-elim (λ w. w .6 ∙ rw (turned _ _ _ _ _ _ _ e h (w .1 .ensures .1) (w .4 .ensures), w .0 .taken, w .5 .left))
+          (λ w. w .1 ∙ passed _ _ _ _ e (sym h ∙ w .0 .left)))
+          (c .if1 .came),
     )
 
 returns : tie.Need-returns Inv-loop μ-loop
@@ -86,8 +92,8 @@ highest-spec =
     Inv-loop
     μ-loop
     loop-holds
-    rival-requires
     has-requires
+    rival-requires
     mul-outranks
     array-copy-out-outranks
     mul-outranks-2

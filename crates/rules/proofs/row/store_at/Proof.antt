@@ -7,7 +7,7 @@ use native.Mathlib.Omega.{arith}
 use lib.ListN.{length}
 use borrow.Author.Needs.{needs}
 use Rattle.sets.specs.Set.{has}
-use Rattle.rules.proofs.Loops.{eachTo, each-begun, each-turned, each-passed, each-ended}
+use Rattle.rules.proofs.Loops.{stored-none, eachTo, each-begun, each-turned, each-passed, each-ended}
 use Rattle.rules.proofs.row.store_at.Statement.{statement}
 use Rattle.rules.proofs.row.store_at.Tie as tie
 
@@ -16,6 +16,12 @@ Inv-loop m v n₀ k₀ n k = (k ≤ 32) × (length n₀ ≡ 32) × (n ≡ eachTo
 
 abbrev μ-loop : tie.MeasureT-loop
 μ-loop m v n₀ k₀ n k = 32 - k
+
+is-empty-requires : tie.Need-is-empty-requires Inv-loop μ-loop
+is-empty-requires c κs = search needs
+
+returns : tie.Need-returns Inv-loop μ-loop
+returns c = stored-none _ _ _ (sym (c .before .is-empty .ensures) ∙ c .if1 .taken)
 
 loop-holds : tie.Need-loop-holds Inv-loop μ-loop
 loop-holds c = (omega arith, search needs, each-begun _ 0 _)
@@ -40,11 +46,11 @@ loop-again c =
       omega arith,
       ⊎-elim (λ w. w .1 ∙ each-turned _ 0 _ _ _ _ e (omega arith) (rw (h ∙ w .0 .taken)))
           (λ w. w .1 ∙ each-passed _ 0 _ _ _ e (omega arith) (rw (h ∙ w .0 .left)))
-          (c .if1 .came),
+          (c .if2 .came),
     )
 
-returns : tie.Need-returns Inv-loop μ-loop
-returns c = each-ended _ 0 _ _ _ (c .before .loop .inv .2) (omega arith)
+returns-2 : tie.Need-returns-2 Inv-loop μ-loop
+returns-2 c = each-ended _ 0 _ _ _ (c .before .loop .inv .2) (omega arith)
 
 pub store-at-spec : {M : Type 1} → statement M
 store-at-spec =
@@ -52,10 +58,12 @@ store-at-spec =
     (tie.spec
     Inv-loop
     μ-loop
+    is-empty-requires
+    returns
     loop-holds
     has-requires
     array-write-n
     add-k
     loop-less
     loop-again
-    returns)
+    returns-2)

@@ -67,22 +67,36 @@ module _ (t : ℕ) where
       let m = more (c .before) in
       (c .before .before .before .pre .1, rw (c .highest .ensures) (highest-in _ _ (m .0) (m .1) .0))
 
+  is-empty-requires-2 : scan-all-lts.Need-is-empty-requires-2 (calls t) (scan-all-at t) scan-all.Post
+  is-empty-requires-2 c κs = search needs
+
   scan-all-requires : scan-all-lts.Need-scan-all-requires (calls t) (scan-all-at t) scan-all.Post
   scan-all-requires c κs =
-      let s = c .before .before .before .before in
+      let o = c .before .before in
+      let s = o .before .before .before .before in
       let a = s .args in
-      let m = more (c .before .before) in
+      let m = more (o .before .before) in
       let f = scan-falls (a .n) (a .xs) (a .i) (a .c) (m .0) (m .1) in
-      (rw (← s .pre .0, turned c) (omega (arith, f)), s .pre .1)
+      (rw (← s .pre .0, turned o) (omega (arith, f)), s .pre .1)
 
   returns : scan-all-lts.Need-returns (calls t) (scan-all-at t) scan-all.Post
   unfolding isEmpty
   returns c = sym (scan-nothing _ _ _ _ (eqb-true _ 0 (sym (c .before .is-empty .ensures) ∙ c .if1 .taken)))
 
   returns-2 : scan-all-lts.Need-returns-2 (calls t) (scan-all-at t) scan-all.Post
+  unfolding isEmpty
   returns-2 c =
-      let m = more (c .before .before .before) in
-      c .scan-all .ensures ∙ rw (turned (c .before)) (sym (scan-more _ _ _ _ (m .0) (m .1)))
+      let o = c .before .before in
+      let a = o .before .before .before .before .args in
+      let m = more (o .before .before) in
+      sym (scan-nothing (a .n) (a .xs) (a .i) (o .scan-one .result) (eqb-true _ 0 (sym (c .before .is-empty2 .ensures) ∙ c .if2 .taken)))
+      ∙ rw (turned o) (sym (scan-more (a .n) (a .xs) (a .i) (a .c) (m .0) (m .1)))
+
+  returns-3 : scan-all-lts.Need-returns-3 (calls t) (scan-all-at t) scan-all.Post
+  returns-3 c =
+      let o = c .before .before .before in
+      let m = more (o .before .before) in
+      c .scan-all .ensures ∙ rw (turned o) (sym (scan-more _ _ _ _ (m .0) (m .1)))
 
 pub +scan-all-spec : {M : Type 1} → statement M
 +scan-all-spec =
@@ -93,6 +107,8 @@ pub +scan-all-spec : {M : Type 1} → statement M
     (is-empty-requires t)
     (highest-requires t)
     (scan-one-requires t)
+    (is-empty-requires-2 t)
     (scan-all-requires t)
     (returns t)
     (returns-2 t)
+    (returns-3 t)
