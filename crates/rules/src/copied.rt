@@ -2,7 +2,7 @@
 ghost use mathlib.Core.Path.{_≡_};
 ghost use Prim.Native.Nat.{_<_, _≤_};
 ghost use Rattle.protocol.specs.State.{emptyState, txnIn};
-ghost use Rattle.rules.specs.Copied.{takenOf, enteredAt, startedRow, startedRows, refusedBy, judgedOf};
+ghost use Rattle.rules.specs.Copied.{takenOf, fromEntry, enteredAt, startedRow, startedRows, refusedBy, judgedOf};
 use crate::table::count_fine;
 use crate::table::homes_fine;
 use crate::table::priorities_differ;
@@ -75,15 +75,23 @@ pub(crate) fn taken(n: usize) -> usize
     if n <= 32 { n } else { 0 }
 }
 
+// The transaction with an entry copied into it.
+pub(crate) fn with_entry(x: Txn, e: Entry) -> Txn
+    ensures { λ y. ⌜ y ≡ fromEntry x e ⌝ }
+{
+    let mut y = x;
+    y.home = e.home;
+    y.priority = e.priority;
+    y
+}
+
 // The state with an entry copied into transaction t.
 pub(crate) fn entered(s: State, t: usize, e: Entry) -> State
     requires { ⌜ t < 32 ⌝ }
     ensures { λ n. ⌜ n ≡ enteredAt s t e ⌝ }
 {
     let mut n = s;
-    let mut x = n.txns[t];
-    x.home = e.home;
-    x.priority = e.priority;
+    let x = with_entry(n.txns[t], e);
     n.txns[t] = x;
     n
 }

@@ -29,6 +29,7 @@ use copied::blank;
 use copied::entered;
 use copied::judged;
 use copied::taken;
+use copied::with_entry;
 use protocol::ACCEPTED;
 use protocol::Action;
 use protocol::Entry;
@@ -101,7 +102,8 @@ pub fn setup_of(sites: u32, n: usize, entries: [Entry; 32]) -> Started
     let mut s = blank();
     let mut i = 0usize;
     while i < m {
-        s = entered(s, i, entries[i]);
+        let x = with_entry(s.txns[i], entries[i]);
+        s.txns[i] = x;
         i = i + 1;
     }
     judged(sites, n, s)

@@ -5,7 +5,7 @@ use native.Mathlib.Omega.{arith}
 use lib.ListN.{take}
 use borrow.Author.Needs.{needs}
 use lib.Seq.{getD-take}
-use Rattle.protocol.specs.State.{maxTxns}
+use Rattle.protocol.specs.State.{maxTxns, withTxn}
 use Rattle.protocol.specs.declared.Entry.{Entry}
 use Rattle.protocol.specs.declared.State.{State}
 use Rattle.rules.specs.Copied.{takenOf, enteredAt, judgedOf}
@@ -30,28 +30,41 @@ blank-requires c κs = search needs
 loop-holds : tie.Need-loop-holds Inv-loop μ-loop
 loop-holds c = (omega arith, taken-fits _ .1, c .blank .ensures ∙ copied-none _)
 
-mul-entered : tie.Need-mul-entered Inv-loop μ-loop
-mul-entered c = omega arith
+mul-with-entry : tie.Need-mul-with-entry Inv-loop μ-loop
+mul-with-entry c = search needs
 
-array-copy-out-entered : tie.Need-array-copy-out-entered Inv-loop μ-loop
-array-copy-out-entered c = omega arith
+element-copy-out-with-entry : tie.Need-element-copy-out-with-entry Inv-loop μ-loop
+element-copy-out-with-entry c = search needs
 
-entered-requires : tie.Need-entered-requires Inv-loop μ-loop
-entered-requires c κs = omega arith
+mul-with-entry-2 : tie.Need-mul-with-entry-2 Inv-loop μ-loop
+mul-with-entry-2 c = search needs
+
+array-copy-out-with-entry : tie.Need-array-copy-out-with-entry Inv-loop μ-loop
+array-copy-out-with-entry c = search needs
+
+with-entry-requires : tie.Need-with-entry-requires Inv-loop μ-loop
+with-entry-requires c κs = search needs
+
+mul-x : tie.Need-mul-x Inv-loop μ-loop
+mul-x c = search needs
+
+element-set-from-x : tie.Need-element-set-from-x Inv-loop μ-loop
+element-set-from-x c = search needs
 
 add-i : tie.Need-add-i Inv-loop μ-loop
-add-i c = omega arith
+add-i c = search needs
 
 loop-less : tie.Need-loop-less Inv-loop μ-loop
-loop-less c = omega arith
+loop-less c = search needs
 
 loop-again : tie.Need-loop-again Inv-loop μ-loop
+unfolding enteredAt
 loop-again c =
-    let args = c .before .before .before .before .before .before .args in
-    let loop = c .before .before .before .loop in (
+    let args = c .before .before .before .before .before .before .before .args in
+    let loop = c .before .before .before .before .loop in (
       omega arith,
       loop .inv .1,
-      c .entered .ensures
+      ap (withTxn (loop .s) (loop .i)) (c .with-entry .ensures)
           ∙ ap₂ (λ (s : State) (e : Entry). enteredAt s (loop .i) e) (loop .inv .2)
           (sym (getD-take (args .n) (args .t3) (loop .i) _ (omega (arith, taken-fits (args .n) .0))))
           ∙ copied-next (take (args .n) (args .t3)) (loop .i) (omega arith),
@@ -78,9 +91,13 @@ setup-of-spec =
     taken-requires
     blank-requires
     loop-holds
-    mul-entered
-    array-copy-out-entered
-    entered-requires
+    mul-with-entry
+    element-copy-out-with-entry
+    mul-with-entry-2
+    array-copy-out-with-entry
+    with-entry-requires
+    mul-x
+    element-set-from-x
     add-i
     loop-less
     loop-again
