@@ -6,7 +6,7 @@
 use crate::plain::reader::{self, Scenario};
 use crate::plain::report;
 use crate::plain::rules;
-use crate::plain::state::{State, MAX_EVENTS};
+use crate::plain::state::{State, MAX_EVENTS, MAX_TRANSACTIONS};
 use crate::proved;
 use crate::rng::Rng;
 use crate::text;
@@ -50,9 +50,34 @@ struct Times {
     proved: f64,
 }
 
-/// Where a call writes, of the length that any report fits in.
+/// Where a call writes: bytes that any report fits in, and what a scenario is
+/// read into, in the form that each implementation takes.
 struct Buffer {
     bytes: Vec<u8>,
+    scenario: Scenario,
+    table: Vec<u32>,
+    events: Vec<u32>,
+}
+
+impl Buffer {
+    fn new() -> Self {
+        Buffer {
+            bytes: vec![0; proved::ROOM],
+            scenario: Scenario::default(),
+            table: vec![0; 2 * MAX_TRANSACTIONS],
+            events: vec![0; 7 * MAX_EVENTS],
+        }
+    }
+
+    /// Empties everything and keeps the room.
+    fn clear(&mut self) {
+        self.bytes.clear();
+        self.bytes.resize(proved::ROOM, 0);
+        self.scenario.table.clear();
+        self.scenario.events.clear();
+        self.table.fill(0);
+        self.events.fill(0);
+    }
 }
 
 /// One way to treat a text.
@@ -80,14 +105,11 @@ fn calibrate(subjects: &[Subject], call: Call) -> usize {
 
 /// The mean time of a text. The clock runs only during the calls.
 fn round(subjects: &[Subject], call: Call, repeats: usize) -> f64 {
-    let mut buffer = Buffer {
-        bytes: vec![0; proved::ROOM],
-    };
+    let mut buffer = Buffer::new();
     let mut spent = Duration::ZERO;
     for _ in 0..repeats {
         for subject in subjects {
-            buffer.bytes.clear();
-            buffer.bytes.resize(proved::ROOM, 0);
+            buffer.clear();
             let start = Instant::now();
             call(black_box(subject), black_box(&mut buffer));
             spent += start.elapsed();
@@ -96,12 +118,13 @@ fn round(subjects: &[Subject], call: Call, repeats: usize) -> f64 {
     spent.as_nanos() as f64 / (repeats * subjects.len()) as f64
 }
 
-fn plain_read(subject: &Subject, _: &mut Buffer) {
-    let _ = black_box(reader::read(&subject.text));
+fn plain_read(subject: &Subject, buffer: &mut Buffer) {
+    let _ = black_box(reader::read_into(&subject.text, &mut buffer.scenario));
 }
 
-fn proved_read(subject: &Subject, _: &mut Buffer) {
-    black_box(proved::read(&subject.text));
+fn proved_read(subject: &Subject, buffer: &mut Buffer) {
+    let line = proved::read(&subject.text, &mut buffer.table, &mut buffer.events);
+    black_box(line);
 }
 
 fn plain_run(subject: &Subject, buffer: &mut Buffer) {

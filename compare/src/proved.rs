@@ -2,7 +2,14 @@
 
 extern "C" {
     fn bench_report(text: *const u8, text_len: usize, out: *mut u8, out_len: usize) -> usize;
-    fn bench_read(text: *const u8, text_len: usize) -> u64;
+    fn bench_read(
+        text: *const u8,
+        text_len: usize,
+        homes: *mut u32,
+        homes_len: usize,
+        numbers: *mut u32,
+        numbers_len: usize,
+    ) -> u64;
     fn bench_run(
         sites: u32,
         table: *const u32,
@@ -30,10 +37,22 @@ pub fn report(text: &[u8], out: &mut [u8]) -> Option<usize> {
     (length > 0).then_some(length)
 }
 
-/// The number of the line at fault, or 0 when the text is in good form.
-pub fn read(text: &[u8]) -> u64 {
-    // SAFETY: the slice is valid for its length and is only read.
-    unsafe { bench_read(text.as_ptr(), text.len()) }
+/// Reads the text into two lists, as far as they have room: the table with two
+/// numbers a transaction, the events with seven each. Gives the number of the
+/// line at fault, or 0 when the text is in good form.
+pub fn read(text: &[u8], table: &mut [u32], events: &mut [u32]) -> u64 {
+    // SAFETY: all three slices are valid for the lengths that go with them,
+    // and the library keeps no pointer.
+    unsafe {
+        bench_read(
+            text.as_ptr(),
+            text.len(),
+            table.as_mut_ptr(),
+            table.len(),
+            events.as_mut_ptr(),
+            events.len(),
+        )
+    }
 }
 
 /// Sets up and runs. The table has two numbers a transaction, the events have

@@ -70,7 +70,7 @@ impl Comparison {
             }
             // A text past the limit is refused by its length, not by a line.
             if text.len() <= MAX_TEXT {
-                self.compare_read(text, read.err().map_or(0, |fault| fault.0))?;
+                self.compare_read(rng, text, &read)?;
             }
         }
         Ok(())
@@ -152,14 +152,36 @@ impl Comparison {
         untouched(&self.out[length..], "bytes beyond the room were written")
     }
 
-    fn compare_read(&mut self, text: &[u8], expected: u64) -> Result<(), String> {
+    /// Compares a reading: the line at fault and, of a text in good form, the
+    /// numbers. Some of the lists have too little room, and no place is written
+    /// that the numbers do not reach.
+    fn compare_read(
+        &mut self,
+        rng: &mut Rng,
+        text: &[u8],
+        read: &Result<Scenario, reader::Fault>,
+    ) -> Result<(), String> {
         self.coverage.count(Kind::ReadChecked);
-        match proved::read(text) {
-            line if line == expected => Ok(()),
-            line => Err(format!(
+        let room = rng.pick(&[0, 1, 20, 7 * MAX_EVENTS]);
+        let mut table = vec![u32::from(UNTOUCHED); room];
+        let mut events = vec![u32::from(UNTOUCHED); room];
+        let line = proved::read(text, &mut table, &mut events);
+        let expected = read.as_ref().err().map_or(0, |fault| fault.0);
+        if line != expected {
+            return Err(format!(
                 "bench_read gives line {line}, plain gives {expected}"
-            )),
+            ));
         }
+        let Ok(scenario) = read else {
+            return Ok(());
+        };
+        let (mut plain_table, mut plain_events) = text::flat(scenario);
+        plain_table.resize(room, u32::from(UNTOUCHED));
+        plain_events.resize(room, u32::from(UNTOUCHED));
+        if (plain_table, plain_events) != (table, events) {
+            return Err("bench_read gives other numbers".into());
+        }
+        Ok(())
     }
 
     /// Compares a run on numbers. Some have a rest of an event at their end,

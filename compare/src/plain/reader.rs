@@ -10,7 +10,7 @@ pub const MAX_TEXT: usize = 65_536;
 const SHORTEST: usize = "event=0,0,0,0,0,0,0\n".len();
 
 /// A scenario in good form. Its numbers are not checked any further.
-#[derive(Clone, PartialEq, Eq, Debug)]
+#[derive(Clone, Default, PartialEq, Eq, Debug)]
 pub struct Scenario {
     pub sites: u32,
     pub table: Vec<Entry>,
@@ -24,31 +24,37 @@ pub struct Fault(pub u64);
 /// Reads the lines in their order. The length of the whole text is the
 /// caller's to check.
 pub fn read(text: &[u8]) -> Result<Scenario, Fault> {
+    let mut scenario = Scenario::default();
+    read_into(text, &mut scenario)?;
+    Ok(scenario)
+}
+
+/// Reads into a scenario whose vectors may have room from an earlier text.
+/// After a fault it holds what was read before it.
+pub fn read_into(text: &[u8], scenario: &mut Scenario) -> Result<(), Fault> {
     let mut lines = Lines {
         rest: text,
         number: 1,
     };
-    let sites = lines.value(b"sites=")?;
+    scenario.sites = lines.value(b"sites=")?;
     let count = lines.value(b"transactions=")?;
-    let mut table = Vec::with_capacity(lines.room(count));
+    scenario.table.clear();
+    scenario.table.reserve(lines.room(count));
     for _ in 0..count {
         let home = lines.value(b"master=")?;
         let priority = lines.value(b"priority=")?;
-        table.push(Entry { home, priority });
+        scenario.table.push(Entry { home, priority });
     }
     let count = lines.value(b"events=")?;
-    let mut events = Vec::with_capacity(lines.room(count));
+    scenario.events.clear();
+    scenario.events.reserve(lines.room(count));
     for _ in 0..count {
-        events.push(lines.event()?);
+        scenario.events.push(lines.event()?);
     }
     if !lines.rest.is_empty() {
         return Err(Fault(lines.number));
     }
-    Ok(Scenario {
-        sites,
-        table,
-        events,
-    })
+    Ok(())
 }
 
 /// What is left of the text and the number of the line it starts with.

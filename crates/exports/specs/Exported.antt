@@ -8,11 +8,11 @@ use Rattle.protocol.specs.Setup.{setupOf}
 use Rattle.protocol.specs.Run.{run}
 use Rattle.protocol.specs.declared.Event.{Event}
 use Rattle.protocol.specs.declared.State.{State}
-use Rattle.scenario.specs.Format.{readText, whole, entriesOf}
+use Rattle.scenario.specs.Format.{Read, whole, entriesOf}
 
--- the number of the line at fault, from 1; 0 where the text is of the form
-unfoldable pub faultLine : List ℕ → ℕ
-faultLine t = cond (whole (readText t .reading .want)) 0 (readText t .reading .line)
+-- the number of the line at fault, from 1; 0 where the text that was read is of the form
+unfoldable pub faultLine : Read → ℕ
+faultLine r = cond (whole (r .reading .want)) 0 (r .reading .line)
 
 -- the state that a setup gives whose table is a list of numbers, two a transaction: its home and its priority
 unfoldable pub begunWith : ℕ → List ℕ → State

@@ -2,11 +2,10 @@
 ghost use mathlib.Core.Path.{_≡_};
 ghost use lib.ListN.{length};
 ghost use Rattle.protocol.specs.Run.{eventsOf, answersAfter};
+ghost use Rattle.scenario.specs.Format.{readInto};
 ghost use Rattle.scenario.specs.Report.{reportOf, reported, reportedIn};
 ghost use Rattle.exports.specs.Exported.{faultLine, begunWith, sentIn};
 use protocol::ACCEPTED;
-use scenario::HOMES;
-use scenario::NUMBERS;
 use scenario::reader::entries_of;
 use scenario::reader::read;
 use scenario::reader::whole;
@@ -21,14 +20,13 @@ pub extern "C" fn bench_report(text: &[u8], out: &mut [u8]) -> usize
     r.length
 }
 
-// The number of the first line of a text that is not of the form or absent, or 0 where there is none.
+// Reads a text into lent lists, as far as they have room: two numbers a transaction and seven an event. The number of the
+// first line that is not of the form or absent, or 0 where there is none.
 #[no_mangle]
-pub extern "C" fn bench_read(text: &[u8]) -> u64
-    ensures { λ r. ⌜ r ≡ faultLine (now (text .entry)) ⌝ }
+pub extern "C" fn bench_read(text: &[u8], homes: &mut [u32], numbers: &mut [u32]) -> u64
+    ensures { λ r. ⌜ (r ≡ faultLine (readInto (now (homes .entry)) (now (numbers .entry)) (now (text .entry)))) × (now (homes .exit) ≡ readInto (now (homes .entry)) (now (numbers .entry)) (now (text .entry)) .homes) × (now (numbers .exit) ≡ readInto (now (homes .entry)) (now (numbers .entry)) (now (text .entry)) .numbers) ⌝ }
 {
-    let mut homes = [0u32; HOMES];
-    let mut numbers = [0u32; NUMBERS];
-    let m = read(text, &mut homes, &mut numbers);
+    let m = read(text, homes, numbers);
     if whole(m) { 0 } else { m.line }
 }
 

@@ -1,4 +1,5 @@
 pub mod Format
+pub mod Ahead
 pub mod Report
 pub mod Samples
 pub mod Put

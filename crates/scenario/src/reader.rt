@@ -1,15 +1,31 @@
-// The reader: a machine over lines. What it keeps goes into lent lists, so that a line costs what its bytes cost.
+// The reader: a machine over lines. What it keeps goes into lent lists, so that a line costs what its bytes cost. A line
+// of the form is read in one pass; any other is read again by its parts, which tell that it is at fault.
 ghost use mathlib.Core.Path.{_≡_};
 ghost use mathlib.Core.Bool.{cond};
-ghost use Prim.Native.Nat.{_<_, _+_, _*_};
-ghost use lib.ListN.{getD, set};
+ghost use Prim.Native.Nat.{_<_, _≤_, _+_, _*_, min};
+ghost use lib.ListN.{length, drop, getD, set};
 ghost use lib.Seq.{sets};
-ghost use Rattle.scenario.specs.Format.{begin, faulted, moved, after, sitesLine, countLine, homeLine, priorityLine, eventsLine, eventLine, eventOf, nextBy, kept, homesBy, numbersBy, readInto, whole, entriesOf};
+ghost use Rattle.text.specs.Line.{before};
+ghost use Rattle.scenario.specs.Format.{begin, faulted, moved, after, sitesLine, countLine, homeLine, priorityLine, eventsLine, eventLine, eventOf, kept, readInto, whole, entriesOf};
+ghost use Rattle.scenario.specs.Ahead.{AnyAhead, ValueAhead, EventAhead, LineAhead};
 use crate::Reading;
 use crate::Want;
 use protocol::Entry;
 use text::Fields;
+use text::Line;
 use text::Number;
+
+// What the value of a line is, and the place of the next line.
+struct Valued {
+    next: usize,
+    number: Number,
+}
+
+// Where a line takes the reading to, and the place of the next line.
+struct Turn {
+    next: usize,
+    reading: Reading,
+}
 
 // Before the first line.
 fn begin() -> Reading
@@ -160,10 +176,7 @@ fn event_of(line: &[u8]) -> Fields
     if text::starts(line, b"event=") {
         text::seven(&line[6..])
     } else {
-        Fields {
-            good: false,
-            values: [0; 7],
-        }
+        text::none()
     }
 }
 
@@ -211,33 +224,132 @@ fn keep_event(numbers: &mut [u32], done: u64, f: Fields)
     }
 }
 
-// One line more.
-fn next_line(m: Reading, line: &[u8], homes: &mut [u32], numbers: &mut [u32]) -> Reading
-    requires { ⌜ (m .line < 18446744073709551615) × (m .done < 18446744073709551615) ⌝ }
-    ensures { λ r. ⌜ (r ≡ nextBy (m .want) m (now (line .entry))) × (now (homes .exit) ≡ homesBy (m .want) m (now (line .entry)) (now (homes .entry))) × (now (numbers .exit) ≡ numbersBy (m .want) m (now (line .entry)) (now (numbers .entry))) ⌝ }
+// Where the line at `at` ends: before its line feed, or where the text ends.
+fn line_feed(text: &[u8], at: usize) -> usize
+    ensures { λ r. ⌜ (r ≡ min at (length (now (text .entry))) + before 10 (drop at (now (text .entry)))) × (r ≤ length (now (text .entry))) ⌝ }
+{
+    text::upto(text, at, 10)
+}
+
+// The place after the line at `at`.
+fn after_line(text: &[u8], at: usize) -> usize
+    requires { ⌜ at < length (now text) ⌝ }
+    ensures { λ r. ⌜ AnyAhead (now (text .entry)) at r ⌝ }
+{
+    let e = line_feed(text, at);
+    if e == text.len() { e } else { e + 1 }
+}
+
+// The value of the line at `at`, by its parts. What no line feed ends has none.
+fn value_by_parts(text: &[u8], at: usize, key: &[u8]) -> Valued
+    requires { ⌜ at < length (now text) ⌝ }
+    ensures { λ r. ⌜ ValueAhead (now (text .entry)) at (now (key .entry)) (r .number) (r .next) ⌝ }
+{
+    let e = line_feed(text, at);
+    if e == text.len() {
+        return Valued {
+            next: e,
+            number: Number::Not,
+        };
+    }
+    Valued {
+        next: e + 1,
+        number: text::value(&text[at..e], key),
+    }
+}
+
+// The value of the line at `at`.
+fn value_of(text: &[u8], at: usize, key: &[u8]) -> Valued
+    requires { ⌜ (at < length (now text)) × (before 10 (now key) ≡ length (now key)) ⌝ }
+    ensures { λ r. ⌜ ValueAhead (now (text .entry)) at (now (key .entry)) (r .number) (r .next) ⌝ }
+{
+    if text::starts(&text[at..], key) {
+        let f = text::number_at(text, at + key.len(), 10);
+        if f.next != 0 {
+            return Valued {
+                next: f.next,
+                number: Number::Is(f.value),
+            };
+        }
+    }
+    value_by_parts(text, at, key)
+}
+
+// The event of the line at `at`, by its parts. What no line feed ends has none.
+fn event_by_parts(text: &[u8], at: usize) -> Line
+    requires { ⌜ at < length (now text) ⌝ }
+    ensures { λ r. ⌜ EventAhead (now (text .entry)) at (r .fields) (r .next) ⌝ }
+{
+    let e = line_feed(text, at);
+    if e == text.len() {
+        return Line {
+            next: e,
+            fields: text::none(),
+        };
+    }
+    Line {
+        next: e + 1,
+        fields: event_of(&text[at..e]),
+    }
+}
+
+// The event of the line at `at`.
+fn event_at(text: &[u8], at: usize) -> Line
+    requires { ⌜ at < length (now text) ⌝ }
+    ensures { λ r. ⌜ EventAhead (now (text .entry)) at (r .fields) (r .next) ⌝ }
+{
+    if text::starts(&text[at..], b"event=") {
+        let l = text::seven_at(text, at + 6);
+        if l.next != 0 {
+            return l;
+        }
+    }
+    event_by_parts(text, at)
+}
+
+// A reading and the place of the next line.
+fn turned(next: usize, reading: Reading) -> Turn
+    ensures { λ r. ⌜ (r .next ≡ next) × (r .reading ≡ reading) ⌝ }
+{
+    Turn { next, reading }
+}
+
+// The line at `at`.
+fn next_line(m: Reading, text: &[u8], at: usize, homes: &mut [u32], numbers: &mut [u32]) -> Turn
+    requires { ⌜ (m .line < 18446744073709551615) × (m .done < 18446744073709551615) × (at < length (now text)) ⌝ }
+    ensures { λ r. ⌜ LineAhead (now (text .entry)) at m (now (homes .entry)) (now (numbers .entry)) (r .reading) (now (homes .exit)) (now (numbers .exit)) (r .next) ⌝ }
 {
     let want = m.want;
     match want {
-        Want::Sites => sites_line(m, text::value(line, b"sites=")),
-        Want::Count => count_line(m, text::value(line, b"transactions=")),
+        Want::Sites => {
+            let Valued { next, number } = value_of(text, at, b"sites=");
+            turned(next, sites_line(m, number))
+        }
+        Want::Count => {
+            let Valued { next, number } = value_of(text, at, b"transactions=");
+            turned(next, count_line(m, number))
+        }
         Want::Home => {
-            let n = text::value(line, b"master=");
-            keep(homes, m.done, 0, n);
-            home_line(m, n)
+            let Valued { next, number } = value_of(text, at, b"master=");
+            keep(homes, m.done, 0, number);
+            turned(next, home_line(m, number))
         }
         Want::Priority => {
-            let n = text::value(line, b"priority=");
-            keep(homes, m.done, 1, n);
-            priority_line(m, n)
+            let Valued { next, number } = value_of(text, at, b"priority=");
+            keep(homes, m.done, 1, number);
+            turned(next, priority_line(m, number))
         }
-        Want::Events => events_line(m, text::value(line, b"events=")),
+        Want::Events => {
+            let Valued { next, number } = value_of(text, at, b"events=");
+            turned(next, events_line(m, number))
+        }
         Want::Event => {
-            let f = event_of(line);
-            keep_event(numbers, m.done, f);
-            event_line(m, f)
+            let Line { next, fields } = event_at(text, at);
+            keep_event(numbers, m.done, fields);
+            turned(next, event_line(m, fields))
         }
-        Want::Nothing => faulted(m),
-        Want::Fault => m,
+        Want::Nothing => turned(after_line(text, at), faulted(m)),
+        Want::Fault => turned(after_line(text, at), m),
     }
 }
 
@@ -247,17 +359,13 @@ pub fn read(text: &[u8], homes: &mut [u32], numbers: &mut [u32]) -> Reading
 {
     let mut m = begin();
     let mut at: usize = 0;
-    loop {
-        let e = text::upto(text, at, 10);
-        if e == text.len() {
-            if at == e {
-                return m;
-            }
-            return faulted(m);
-        }
-        m = next_line(m, &text[at..e], homes, numbers);
-        at = e + 1;
+    while at < text.len() {
+        let t = next_line(m, text, at, homes, numbers);
+        let r = t.reading;
+        m = r;
+        at = t.next;
     }
+    m
 }
 
 // All that the text announces was there, and nothing after it.
@@ -278,7 +386,7 @@ pub fn whole(m: Reading) -> bool
 }
 
 // What stands at place k, or 0 where the list has no such place.
-fn number_at(list: &[u32], k: usize) -> u32
+fn stored_at(list: &[u32], k: usize) -> u32
     ensures { λ r. ⌜ r ≡ getD (now (list .entry)) k 0 ⌝ }
 {
     if k < list.len() { list[k] } else { 0 }
@@ -296,8 +404,8 @@ pub fn entries_of(homes: &[u32]) -> [Entry; 32]
     let mut t: usize = 0;
     while t < 32 {
         entries[t] = Entry {
-            home: number_at(homes, 2 * t),
-            priority: number_at(homes, 2 * t + 1),
+            home: stored_at(homes, 2 * t),
+            priority: stored_at(homes, 2 * t + 1),
         };
         t += 1;
     }

@@ -15,6 +15,7 @@ use lib.Seq.{take-all, drop-drop, drop-append-seam}
 use borrow.Author.Tests.{lt-ltb, le-ltb, le-leb, eq-eqb, ne-eqb, leb-true, ltb-true, ltb-false, eqb-true, eqb-false}
 use Rattle.text.specs.Decimal.{goesOn, numberOf, digits, digitsBy}
 use Rattle.text.specs.Line.{before, cut, parts, starts, valueOf}
+use Rattle.text.specs.Front.{Front}
 use Rattle.text.specs.declared.Number.the-variants.{Is, Not}
 
 -- ---- the writing of a number
@@ -218,17 +219,22 @@ read-back n g =
 
 -- ---- what is read was written
 
+-- a number is written as v and a digit where that digit takes v on to it
+pub digits-more : (v b : ℕ) → 0 < v → 48 ≤ b → b ≤ 57 → v * 10 + (b - 48) < 4294967296
+    → digits (v * 10 + (b - 48)) ≡ digits v ++ (b ∷ [])
+digits-more v b p h g f =
+    let d : (v * 10 + (b - 48)) / 10 ≡ v = omega arith in
+    let m : 48 + (v * 10 + (b - 48)) % 10 ≡ b = omega arith in
+    digits-high (v * 10 + (b - 48)) (omega arith) f ∙ ap₂ (λ (x y : ℕ). digits x ++ (y ∷ [])) d m
+
 -- what v goes on to is written as v, and then the bytes that it goes on with
 rest-written : (l : List ℕ) (v n : ℕ) → 0 < v → v < 4294967296 → goesOn v l ≡ Is n → digits n ≡ digits v ++ l
 unfolding goesOn
 rest-written [] v n p g e = let w : n ≡ v = cc in ap digits w ∙ sym (append-nil (digits v))
 rest-written (b ∷ l) v n p g e =
     let w = went-on v b n l e in
-    let d : (v * 10 + (b - 48)) / 10 ≡ v = omega arith in
-    let m : 48 + (v * 10 + (b - 48)) % 10 ≡ b = omega arith in
     rest-written l (v * 10 + (b - 48)) n (omega arith) (w .fits) (w .rest)
-    ∙ ap (λ (x : List ℕ). x ++ l)
-    (digits-high (v * 10 + (b - 48)) (omega arith) (w .fits) ∙ ap₂ (λ (x y : ℕ). digits x ++ (y ∷ [])) d m)
+    ∙ ap (λ (x : List ℕ). x ++ l) (digits-more v b p (w .low) (w .high) (w .fits))
     ∙ append-assoc (digits v) (b ∷ []) l
 
 -- a digit is its own writing
@@ -467,3 +473,17 @@ value-read key l n e =
 -- .. and it is a number of 32 bits
 pub value-fits : (key l : List ℕ) (n : ℕ) → valueOf key l ≡ Is n → n < 4294967296
 value-fits key l n e = number-fits (drop (length key) l) n (valued key l n e .1)
+
+-- ---- what stands at a place
+
+-- l, and m after it
+pub front-then : {s : List ℕ} {at i j : ℕ} {l m : List ℕ} → Front s at l i → Front s i m j → Front s at (l ++ m) j
+front-then {s} {at} {i} {j} {l} {m} x y = record {
+  split = x .split ∙ ap (λ (k : List ℕ). l ++ k) (y .split) ∙ sym (append-assoc l m (drop j s));
+}
+
+-- a key that the rest of the text starts with
+pub front-key : (s key : List ℕ) (at : ℕ) → starts key (drop at s) ≡ true → Front s at key (at + length key)
+front-key s key at h = record {
+  split = sym (key-starts key (drop at s) h) ∙ ap (λ (m : List ℕ). key ++ m) (drop-drop (length key) at s);
+}

@@ -3,7 +3,7 @@ use mathlib.Core.Path.{refl}
 use Prim.Native.Nat.{_-_}
 use native.Mathlib.Omega.{arith}
 use lib.ListN.{length}
-use Rattle.text.proofs.Steps.{Alike, line-ended, bytes-differ, bytes-alike, key-ended}
+use Rattle.text.proofs.Steps.{Alike, line-short, bytes-differ, bytes-alike, key-ended}
 use Rattle.text.proofs.starts.Statement.{statement}
 use Rattle.text.proofs.starts.Tie as tie
 
@@ -13,11 +13,11 @@ Inv-loop s key i₀ i = Alike s key i
 abbrev μ-loop : tie.MeasureT-loop
 μ-loop s key i₀ i = length key - i
 
+returns : tie.Need-returns Inv-loop μ-loop
+returns c = line-short _ _ (omega arith)
+
 loop-holds : tie.Need-loop-holds Inv-loop μ-loop
 loop-holds c = record { so-far = refl }
-
-returns : tie.Need-returns Inv-loop μ-loop
-returns c = line-ended (c .before .before .loop .inv) (omega arith) (omega arith)
 
 shared-slice-read-if2 : tie.Need-shared-slice-read-if2 Inv-loop μ-loop
 shared-slice-read-if2 c = omega arith
@@ -27,7 +27,7 @@ shared-slice-read-if2-2 c = omega arith
 
 returns-2 : tie.Need-returns-2 Inv-loop μ-loop
 returns-2 c =
-    bytes-differ (c .before .before .before .before .before .loop .inv) (omega arith) (omega arith) (c .if2 .taken)
+    bytes-differ (c .before .before .before .before .loop .inv) (omega arith) (omega arith) (c .if2 .taken)
 
 add-i : tie.Need-add-i Inv-loop μ-loop
 add-i c = omega arith
@@ -37,7 +37,7 @@ loop-less c = omega arith
 
 loop-again : tie.Need-loop-again Inv-loop μ-loop
 loop-again c =
-    bytes-alike (c .before .before .before .before .before .loop .inv) (omega arith) (omega arith) (c .if2 .left)
+    bytes-alike (c .before .before .before .before .loop .inv) (omega arith) (omega arith) (c .if2 .left)
 
 returns-3 : tie.Need-returns-3 Inv-loop μ-loop
 returns-3 c = key-ended (c .before .loop .inv) (omega arith)
@@ -48,8 +48,8 @@ starts-spec =
     (tie.spec
     Inv-loop
     μ-loop
-    loop-holds
     returns
+    loop-holds
     shared-slice-read-if2
     shared-slice-read-if2-2
     returns-2

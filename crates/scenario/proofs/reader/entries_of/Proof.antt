@@ -18,20 +18,20 @@ abbrev μ-loop : tie.MeasureT-loop
 loop-holds : tie.Need-loop-holds Inv-loop μ-loop
 loop-holds c = filled-none _ _ _ _ (search needs)
 
-mul-number-at : tie.Need-mul-number-at Inv-loop μ-loop
-mul-number-at c = search needs
+mul-stored-at : tie.Need-mul-stored-at Inv-loop μ-loop
+mul-stored-at c = search needs
 
-number-at-requires : tie.Need-number-at-requires Inv-loop μ-loop
-number-at-requires c κs = search needs
+stored-at-requires : tie.Need-stored-at-requires Inv-loop μ-loop
+stored-at-requires c κs = search needs
 
-mul-number-at-2 : tie.Need-mul-number-at-2 Inv-loop μ-loop
-mul-number-at-2 c = search needs
+mul-stored-at-2 : tie.Need-mul-stored-at-2 Inv-loop μ-loop
+mul-stored-at-2 c = search needs
 
-add-number-at : tie.Need-add-number-at Inv-loop μ-loop
-add-number-at c = search needs
+add-stored-at : tie.Need-add-stored-at Inv-loop μ-loop
+add-stored-at c = search needs
 
-number-at-requires-2 : tie.Need-number-at-requires-2 Inv-loop μ-loop
-number-at-requires-2 c κs = search needs
+stored-at-requires-2 : tie.Need-stored-at-requires-2 Inv-loop μ-loop
+stored-at-requires-2 c κs = search needs
 
 mul-entries : tie.Need-mul-entries Inv-loop μ-loop
 mul-entries c = search needs
@@ -48,7 +48,7 @@ loop-less c = search needs
 loop-again : tie.Need-loop-again Inv-loop μ-loop
 loop-again c =
     filled-next _ _ _ (c .before .before .before .loop .inv) (c .before .before .loop-test .taken)
-    (λ p. record { home = c .before .number-at .ensures p; priority = c .number-at2 .ensures p })
+    (λ p. record { home = c .before .stored-at .ensures p; priority = c .stored-at2 .ensures p })
 
 returns : tie.Need-returns Inv-loop μ-loop
 unfolding entriesIn
@@ -61,11 +61,11 @@ entries-of-spec =
     Inv-loop
     μ-loop
     loop-holds
-    mul-number-at
-    number-at-requires
-    mul-number-at-2
-    add-number-at
-    number-at-requires-2
+    mul-stored-at
+    stored-at-requires
+    mul-stored-at-2
+    add-stored-at
+    stored-at-requires-2
     mul-entries
     array-set-from-entries
     add-t

@@ -28,13 +28,16 @@ part-seven-end c = search needs
 seven-requires : tie.Need-seven-requires
 seven-requires c κs = search needs
 
+none-requires : tie.Need-none-requires
+none-requires c κs = search needs
+
 returns : tie.Need-returns
 unfolding bytes
 returns c = event-is _ _ (sym (c .before .before .before .starts .ensures) ∙ c .before .before .if1 .taken) (c .seven .ensures)
 
 returns-2 : tie.Need-returns-2
 unfolding bytes eventOf
-returns-2 c = rw (sym (c .before .starts .ensures) ∙ c .if1 .left)
+returns-2 c = rw (sym (c .before .before .starts .ensures) ∙ c .before .if1 .left) (c .none .ensures)
 
 pub event-of-spec : {M : Type 1} → statement M
 event-of-spec =
@@ -46,5 +49,6 @@ event-of-spec =
     part-seven-start
     part-seven-end
     seven-requires
+    none-requires
     returns
     returns-2)

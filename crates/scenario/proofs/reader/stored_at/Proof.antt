@@ -4,8 +4,8 @@ use mathlib.Core.Path.{sym}
 use mathlib.Core.List.{List}
 use lib.ListN.{List·getD-eq-default}
 use borrow.Author.Needs.{needs}
-use Rattle.scenario.proofs.reader.number_at.Statement.{statement}
-use Rattle.scenario.proofs.reader.number_at.Tie as tie
+use Rattle.scenario.proofs.reader.stored_at.Statement.{statement}
+use Rattle.scenario.proofs.reader.stored_at.Tie as tie
 
 mul-result : tie.Need-mul-result
 mul-result c = search needs
@@ -20,5 +20,5 @@ returns-2 : tie.Need-returns-2
 returns-2 c =
     let l : List ℕ = c .before .args .list .now in sym (List·getD-eq-default l 0 {n = c .before .args .k} (c .if1 .left))
 
-pub number-at-spec : {M : Type 1} → statement M
-number-at-spec = tie.close (tie.spec mul-result shared-slice-read-result returns returns-2)
+pub stored-at-spec : {M : Type 1} → statement M
+stored-at-spec = tie.close (tie.spec mul-result shared-slice-read-result returns returns-2)
