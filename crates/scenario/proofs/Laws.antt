@@ -1,24 +1,24 @@
 -- What the proofs lean on: a definition at the variant that a match found, the seven stores of an event, how far a line
 -- moves the numbers, what stands ahead in a text and what it makes of the reading, and one line of a text.
 use mathlib.Core.Path.{_≡_, refl, sym, ap, _∙_}
-use mathlib.Core.Bool.{Bool, true, false, cond, _&&_}
+use mathlib.Core.Bool.{Bool, true, false, cond}
 use mathlib.Core.List.{List, [], _∷_, _++_, append-assoc}
 use Prim.Native.Nat.{ℕ, suc, _+_, _-_, _*_, _≤_, _<_, min}
 use native.Mathlib.Numerals.{unary-clauses}
 use native.Mathlib.Omega.{arith}
 use lib.Arith.{lt-of-le-ne}
-use lib.Dec.{eqb}
 use lib.ListN.{length, take, drop, getD, set, length-append, length-take, length-drop, length-set, drop-of-length-le}
 use lib.Seq.{sets, set-out, take-all}
 use Rattle.text.specs.Written.{bytes}
 use Rattle.text.specs.Line.{before, parts, starts, valueOf, fieldsOf}
 use Rattle.text.specs.Decimal.{digits}
-use Rattle.text.specs.Front.{Front, NumberAt, FieldsAt}
-use Rattle.text.specs.Laws.{parts-some, parts-few, part-last, part-next, parts-then, lacks-both, digits-lacks, starts-key, value-written, front-then, front-key}
+use Rattle.text.specs.Laws.{parts-some, parts-few, part-last, part-next, parts-then, lacks-both, digits-lacks, starts-key, value-written}
 use Rattle.text.specs.declared.Number.{Number}
 use Rattle.text.specs.declared.Number.the-variants.{Is, Not}
 use Rattle.text.specs.declared.Fields.{Fields}
 use Rattle.scenario.specs.Format.{Read, begin, faulted, moved, after, sitesLine, countLine, homeLine, priorityLine, eventsLine, eventLine, eventOf, nextBy, homesBy, numbersBy, nextLine, allLines, readInto}
+use Rattle.scenario.specs.Front.{Front, NumberAt, FieldsAt}
+use Rattle.scenario.proofs.Fronts.{front-then, front-key}
 use Rattle.scenario.specs.Ahead.{Cut, line, rest, Ahead, AnyAhead, ValueAhead, EventAhead, LineAhead}
 use Rattle.scenario.specs.declared.Want.{Want}
 use Rattle.scenario.specs.declared.Want.the-variants.{Sites, Count, Home, Priority, Events, Event, Nothing, Fault}
@@ -43,18 +43,6 @@ by-want m l hs ns r hs′ ns′ w e i j k = (
 )
 
 -- ---- a line that starts with a key
-
--- it is at least as long
-pub starts-long : (key l : List ℕ) → starts key l ≡ true → length key ≤ length l
-unfolding starts
-starts-long [] l e = omega arith
-starts-long (k ∷ key) [] e = let z : _≡_ {A = ℕ} 0 1 = cc in absurd (omega arith)
-starts-long (k ∷ key) (x ∷ l) e = go (eqb x k) e (starts-long key l)
-  where
-    go : (t : Bool) → t && starts key l ≡ true → (starts key l ≡ true → length key ≤ length l)
-        → suc (length key) ≤ suc (length l)
-    go true f h = let g = h f in omega arith
-    go false f h = let z : _≡_ {A = ℕ} 0 1 = cc in absurd (omega arith)
 
 -- what stands after the key
 pub event-is : (l : List ℕ) (r : Fields) → starts (bytes "event=") l ≡ true

@@ -1,4 +1,5 @@
 pub mod Filling
+pub mod Fronts
 pub mod Laws
 pub mod Rehearsed
 pub mod Shape

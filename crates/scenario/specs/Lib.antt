@@ -1,4 +1,5 @@
 pub mod Format
+pub mod Front
 pub mod Ahead
 pub mod Report
 pub mod Samples

@@ -1,7 +1,7 @@
 -- How long a report can be: reportRoom bytes suffice for every text.
 use Prim.Native.Nat.{ℕ, zero, suc, _+_, _-_, _*_, _≤_, _<_}
 use mathlib.Core.Path.{_≡_, refl, sym, ap, _∙_}
-use mathlib.Core.Bool.{Bool, true, false, cond}
+use mathlib.Core.Bool.{true, cond}
 use mathlib.Core.List.{List, [], _∷_, _++_, append-assoc, append-nil}
 use native.Mathlib.Omega.{arith}
 use lib.Dec.{eqb, ltb}
@@ -12,7 +12,6 @@ use Rattle.protocol.specs.State.{maxSites, maxTxns, maxEvents, rowAt, placeAt, 
 use Rattle.protocol.specs.Setup.{setupOf}
 use Rattle.protocol.specs.Range.{inRange}
 use Rattle.protocol.specs.Run.{eventsOf, stateAfter, answersOf, sentBy}
-use Rattle.protocol.specs.declared.Started.{Started}
 use Rattle.protocol.specs.declared.Entry.{Entry}
 use Rattle.protocol.specs.declared.Row.{Row}
 use Rattle.protocol.specs.declared.Place.{Place}
@@ -26,7 +25,7 @@ use Rattle.laws.specs.Shape.{Shaped}
 use Rattle.laws.specs.InRange.{sites-fit, count-fits, range-out}
 use Rattle.laws.specs.Ranged.{after-ranged, after-counts}
 use Rattle.laws.specs.Runs.{events-length, answers-length, setup-of-ranged}
-use Rattle.scenario.specs.Format.{Read, readText, whole, entriesOf}
+use Rattle.scenario.specs.Format.{readText, whole, entriesOf}
 use Rattle.scenario.specs.Put.{siteOf}
 use Rattle.scenario.specs.Report.{maxText, reportRoom, lineOf, othersOf, commasOf, listOf, answerLines, siteLines, runLines, outcomeOf, readReport, reportOf, reported, reportedIn}
 use Rattle.scenario.specs.declared.Reported.{Reported}

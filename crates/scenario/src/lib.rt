@@ -50,6 +50,7 @@ pub const HOMES: usize = 64;
 
 pub const NUMBERS: usize = 7168;
 
+pub(crate) mod ahead;
 pub(crate) mod printer;
 pub mod reader;
 pub(crate) mod rehearsal;

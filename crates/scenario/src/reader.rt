@@ -10,9 +10,11 @@ ghost use Rattle.scenario.specs.Format.{begin, faulted, moved, after, si
 ghost use Rattle.scenario.specs.Ahead.{AnyAhead, ValueAhead, EventAhead, LineAhead};
 use crate::Reading;
 use crate::Want;
+use crate::ahead::Line;
+use crate::ahead::number_at;
+use crate::ahead::seven_at;
 use protocol::Entry;
 use text::Fields;
-use text::Line;
 use text::Number;
 
 // What the value of a line is, and the place of the next line.
@@ -264,7 +266,7 @@ fn value_of(text: &[u8], at: usize, key: &[u8]) -> Valued
     ensures { λ r. ⌜ ValueAhead (now (text .entry)) at (now (key .entry)) (r .number) (r .next) ⌝ }
 {
     if text::starts(&text[at..], key) {
-        let f = text::number_at(text, at + key.len(), 10);
+        let f = number_at(text, at + key.len(), 10);
         if f.next != 0 {
             return Valued {
                 next: f.next,
@@ -299,7 +301,7 @@ fn event_at(text: &[u8], at: usize) -> Line
     ensures { λ r. ⌜ EventAhead (now (text .entry)) at (r .fields) (r .next) ⌝ }
 {
     if text::starts(&text[at..], b"event=") {
-        let l = text::seven_at(text, at + 6);
+        let l = seven_at(text, at + 6);
         if l.next != 0 {
             return l;
         }

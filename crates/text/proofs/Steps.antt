@@ -2,7 +2,7 @@
 -- record says what holds before a turn, and laws say what a turn makes of it.
 use mathlib.Core.Path.{_≡_, refl, sym, ap, _∙_}
 use mathlib.Core.Bool.{Bool, true, false, _&&_}
-use mathlib.Core.List.{List, [], _∷_, _++_, map, map-append, append-assoc, append-nil}
+use mathlib.Core.List.{List, [], _∷_, _++_, map, append-nil}
 use mathlib.Core.Logic.{_⊎_, inl, inr, ⊎-elim}
 use Prim.Native.Nat.{ℕ, suc, _+_, _-_, _*_, _≤_, _<_, min}
 use native.Mathlib.Numerals.{add-one}
@@ -10,12 +10,11 @@ use native.Mathlib.Omega.{arith}
 use lib.Arith.{lt-of-le-ne}
 use lib.Dec.{eqb}
 use lib.ListN.{length, take, drop, getD, set, length-append, length-map, length-take, length-drop, length-set, drop-of-length-le}
-use lib.Seq.{drop-cons, take-all, take-suc-set}
+use lib.Seq.{drop-cons, take-all}
 use borrow.Author.Tests.{lt-leb, le-leb, le-ltb, eq-eqb, ne-eqb, eqb-true, eqb-false}
-use Rattle.text.specs.Decimal.{goesOn, numberOf, digits}
-use Rattle.text.specs.Line.{before, parts, starts, valueOf, noFields, isNumber, theNumber, allNumbers, fieldsBy, fieldsOf}
-use Rattle.text.specs.Front.{Front, NumberAt, FieldsAt}
-use Rattle.text.specs.Laws.{digits-low, digits-more, front-then, goes-on, read-back, parts-some, parts-last, part-last, part-next, parts-then, lacks-both, digits-lacks}
+use Rattle.text.specs.Decimal.{goesOn, numberOf}
+use Rattle.text.specs.Line.{before, parts, starts, valueOf, noFields, isNumber, allNumbers, fieldsBy, fieldsOf}
+use Rattle.text.specs.Laws.{goes-on, parts-some, part-last, part-next, starts-long, fields-seven, value-more}
 use Rattle.text.specs.declared.Number.{Number}
 use Rattle.text.specs.declared.Number.the-variants.{Is, Not}
 
@@ -110,21 +109,6 @@ module _ {s : List ℕ} {at b i : ℕ} (p : Passed s at b i) where
 
 -- ---- a key
 
--- a line is at least as long as a key that it starts with
-pub starts-long : (key l : List ℕ) → starts key l ≡ true → length key ≤ length l
-unfolding starts
-starts-long [] l e = omega arith
-starts-long (k ∷ key) [] e = absurd (no e)
-  where
-    no : false ≡ true → ⊥
-    no f = let z : _≡_ {A = ℕ} 0 1 = cc in omega arith
-starts-long (k ∷ key) (x ∷ l) e = go (eqb x k) e (starts-long key l)
-  where
-    go : (t : Bool) → (t && starts key l) ≡ true → (starts key l ≡ true → length key ≤ length l)
-        → suc (length key) ≤ suc (length l)
-    go true f r = let h = r f in omega arith
-    go false f r = let z : _≡_ {A = ℕ} 0 1 = cc in absurd (omega arith)
-
 -- so a shorter one does not start with it
 pub line-short : (s key : List ℕ) → length s < length key → false ≡ starts key s
 line-short s key h = go (starts key s) refl
@@ -198,17 +182,6 @@ unfolding allNumbers
 one-not [] b = refl
 one-not (n ∷ a) b = ap (λ (t : Bool). isNumber n && t) (one-not a b) ∙ and-false (isNumber n)
 
--- numbers are all numbers
-all-are : (v : List ℕ) → allNumbers (map Is v) ≡ true
-unfolding allNumbers
-all-are [] = refl
-all-are (x ∷ v) = all-are v
-
--- and they are those they were
-values-back : (v : List ℕ) → map theNumber (map Is v) ≡ v
-values-back [] = refl
-values-back (x ∷ v) = ap (λ (l : List ℕ). x ∷ l) (values-back v)
-
 -- no values where one is no number
 fields-not : (s : List ℕ) (a b : List Number) → map numberOf (parts 44 s) ≡ a ++ (Not ∷ b) → noFields ≡ fieldsOf s
 unfolding fieldsOf fieldsBy
@@ -219,21 +192,6 @@ fields-other : (s : List ℕ) (ns : List Number) → map numberOf (parts 44 s) �
     → noFields ≡ fieldsOf s
 unfolding fieldsOf fieldsBy
 fields-other s ns e h = rw (e, ne-eqb (length ns) 7 h)
-
--- the values where there are seven numbers
-fields-seven : (s v : List ℕ) → length v ≡ 7 → map numberOf (parts 44 s) ≡ map Is v
-    → record { good = true; values = v } ≡ fieldsOf s
-unfolding fieldsOf fieldsBy
-fields-seven s v h e =
-    rw (e, eq-eqb (length (map Is v)) 7 (length-map v Is ∙ h), all-are v, values-back v)
-
--- one value more
-value-more : (v : List ℕ) (k x : ℕ) (ns : List Number) → k < length v
-    → map Is (take k v) ++ (Is x ∷ ns) ≡ map Is (take (k + 1) (set v k x)) ++ ns
-value-more v k x ns h =
-    sym
-    (rw (add-one k, take-suc-set v k x h, map-append Is (take k v) (x ∷ []))
-    (append-assoc (map Is (take k v)) (Is x ∷ []) ns))
 
 -- two numbers are equal or not
 eq-or-not : (m n : ℕ) → (m ≡ n) ⊎ (m ≡ n → ⊥)
@@ -319,101 +277,3 @@ module _
             length-take (k + 1) (set v k x),
             length-set v k x,
           )))
-
--- ---- what stands at a place
-
--- one byte
-front-byte : (s : List ℕ) (i b : ℕ) → i < length s → getD s i 0 ≡ b → Front s i (b ∷ []) (i + 1)
-front-byte s i b h e = record { split = rw (add-one i, drop-cons s i 0 h, e) }
-
--- the decimal of v stands from `at` to i
-pub record Digits (s : List ℕ) (at v i : ℕ) : Type 0 where
-  pub small : v < 4294967296
-  pub front : Front s at (digits v) i
-
--- a digit alone
-pub digit-first : (s : List ℕ) (at v : ℕ) → at < length s → getD s at 0 ≡ 48 + v → v < 10 → Digits s at v (at + 1)
-digit-first s at v h e g = record { small = omega arith; front = rw (digits-low v g) (front-byte s at (48 + v) h e) }
-
-module _ {s : List ℕ} {at v i : ℕ} (r : Digits s at v i) (h : i < length s) where
-  -- one digit more
-  pub digit-next : (w : ℕ) → 0 < v → 48 ≤ getD s i 0 → getD s i 0 ≤ 57 → w ≡ v * 10 + (getD s i 0 - 48)
-      → w < 4294967296
-      → Digits s at w (i + 1)
-  digit-next w p l g e f = record {
-    small = f;
-    front =
-        rw (e, digits-more v (getD s i 0) p l g (omega arith)) (front-then (r .front) (front-byte s i (getD s i 0) h refl));
-  }
-
-  -- the byte that ends it
-  pub digits-end : (b : ℕ) → getD s i 0 ≡ b → NumberAt s at b v (i + 1)
-  digits-end b e = record {
-    small = r .small;
-    inside = omega arith;
-    front = front-then (r .front) (front-byte s i b h e);
-  }
-
--- ---- seven values at a place
-
--- a line stands from `at` to i whose values are the first k, whatever comes after it
-pub record Begun (s : List ℕ) (at : ℕ) (v : List ℕ) (k i : ℕ) : Type 0 where
-  pub few : k ≤ 6
-  pub size : length v ≡ 7
-  pub line : List ℕ
-  pub front : Front s at line i
-  pub lacks : before 10 line ≡ length line
-  pub so-far : (m : List ℕ) → map numberOf (parts 44 (line ++ m)) ≡ map Is (take k v) ++ map numberOf (parts 44 m)
-
--- nothing
-pub line-begun : (s : List ℕ) (at : ℕ) (v : List ℕ) → length v ≡ 7 → Begun s at v 0 at
-unfolding before
-line-begun s at v h = record {
-  few = omega arith;
-  size = h;
-  line = [];
-  front = record { split = refl };
-  lacks = refl;
-  so-far = λ m. refl;
-}
-
-module _ {s v : List ℕ} {at k i : ℕ} (r : Begun s at v k i) (x : ℕ) where
-  -- the numbers of the line with x after it, where the parts that x begins are x and ps
-  begun-with : (m : List ℕ) (ps : List (List ℕ)) → x < 4294967296 → parts 44 m ≡ digits x ∷ ps
-      → map numberOf (parts 44 (r .line ++ m)) ≡ map Is (take (k + 1) (set v k x)) ++ map numberOf ps
-  begun-with m ps h e =
-      r .so-far m
-      ∙ rw (e, read-back x h)
-      (value-more v k x (map numberOf ps) (omega (arith, r .few, r .size)))
-
-  -- a value with a comma after it
-  pub begun-more : {j : ℕ} → NumberAt s i 44 x j → k < 6 → Begun s at (set v k x) (k + 1) j
-  unfolding before
-  begun-more {j} f l = record {
-    few = omega arith;
-    size = length-set v k x ∙ r .size;
-    line = r .line ++ (digits x ++ (44 ∷ []));
-    front = front-then (r .front) (f .front);
-    lacks =
-        lacks-both 10 (r .line) (digits x ++ (44 ∷ [])) (r .lacks)
-        (lacks-both 10 (digits x) (44 ∷ []) (digits-lacks 10 x (omega arith)) refl);
-    so-far = λ m.
-        rw (append-assoc (r .line) (digits x ++ (44 ∷ [])) m, append-assoc (digits x) (44 ∷ []) m)
-        (begun-with (digits x ++ (44 ∷ m)) (parts 44 m) (f .small)
-        (parts-then 44 (digits x) m (digits-lacks 44 x (omega arith))));
-  }
-
-  -- the last, with a line feed after it
-  pub begun-all : {j : ℕ} → NumberAt s i 10 x j → k ≡ 6 → FieldsAt s at (record { good = true; values = set v 6 x }) j
-  begun-all {j} f l = record {
-    line = r .line ++ digits x;
-    inside = f .inside;
-    front = rw (append-assoc (r .line) (digits x) (10 ∷ [])) (front-then (r .front) (f .front));
-    lacks = lacks-both 10 (r .line) (digits x) (r .lacks) (digits-lacks 10 x (omega arith));
-    fields =
-        sym
-        (fields-seven (r .line ++ digits x) (set v 6 x) (length-set v 6 x ∙ r .size)
-        (begun-with (digits x) [] (f .small) (parts-last 44 (digits x) (digits-lacks 44 x (omega arith)))
-        ∙ append-nil (map Is (take (k + 1) (set v k x)))
-        ∙ rw l (ap (map Is) (take-all 7 (set v 6 x) (omega (arith, length-set v 6 x, r .size))))));
-  }

@@ -3,19 +3,20 @@
 -- the writing of n.
 use mathlib.Core.Path.{_≡_, refl, sym, ap, ap₂, _∙_}
 use mathlib.Core.Bool.{Bool, true, false, cond, _&&_, false≢true}
-use mathlib.Core.List.{List, [], _∷_, _++_, append-assoc, append-nil}
+use mathlib.Core.List.{List, [], _∷_, _++_, map, map-append, append-assoc, append-nil}
 use mathlib.Core.Logic.{_⊎_, inl, inr, ⊎-elim}
 use Prim.Native.Nat.{ℕ, zero, suc, _+_, _-_, _*_, _/_, _%_, _^_, _≤_, _<_, min}
 use native.Mathlib.Nat.{pow-suc}
+use native.Mathlib.Numerals.{add-one}
 use native.Mathlib.Omega.{arith}
 use lib.Arith.{lt-of-le-ne}
 use lib.Dec.{eqb, leb, ltb}
-use lib.ListN.{length, take, drop, getD, length-append, length-drop, List·getD-append}
-use lib.Seq.{take-all, drop-drop, drop-append-seam}
+use lib.ListN.{length, take, drop, getD, set, length-append, length-map, length-drop, List·getD-append}
+use lib.Seq.{take-all, take-suc-set, drop-drop, drop-append-seam}
 use borrow.Author.Tests.{lt-ltb, le-ltb, le-leb, eq-eqb, ne-eqb, leb-true, ltb-true, ltb-false, eqb-true, eqb-false}
 use Rattle.text.specs.Decimal.{goesOn, numberOf, digits, digitsBy}
-use Rattle.text.specs.Line.{before, cut, parts, starts, valueOf}
-use Rattle.text.specs.Front.{Front}
+use Rattle.text.specs.Line.{before, cut, parts, starts, valueOf, theNumber, allNumbers, fieldsBy, fieldsOf}
+use Rattle.text.specs.declared.Number.{Number}
 use Rattle.text.specs.declared.Number.the-variants.{Is, Not}
 
 -- ---- the writing of a number
@@ -474,16 +475,47 @@ value-read key l n e =
 pub value-fits : (key l : List ℕ) (n : ℕ) → valueOf key l ≡ Is n → n < 4294967296
 value-fits key l n e = number-fits (drop (length key) l) n (valued key l n e .1)
 
--- ---- what stands at a place
+-- ---- seven values
 
--- l, and m after it
-pub front-then : {s : List ℕ} {at i j : ℕ} {l m : List ℕ} → Front s at l i → Front s i m j → Front s at (l ++ m) j
-front-then {s} {at} {i} {j} {l} {m} x y = record {
-  split = x .split ∙ ap (λ (k : List ℕ). l ++ k) (y .split) ∙ sym (append-assoc l m (drop j s));
-}
+-- numbers are all numbers
+all-are : (v : List ℕ) → allNumbers (map Is v) ≡ true
+unfolding allNumbers
+all-are [] = refl
+all-are (x ∷ v) = all-are v
 
--- a key that the rest of the text starts with
-pub front-key : (s key : List ℕ) (at : ℕ) → starts key (drop at s) ≡ true → Front s at key (at + length key)
-front-key s key at h = record {
-  split = sym (key-starts key (drop at s) h) ∙ ap (λ (m : List ℕ). key ++ m) (drop-drop (length key) at s);
-}
+-- and they are those they were
+values-back : (v : List ℕ) → map theNumber (map Is v) ≡ v
+values-back [] = refl
+values-back (x ∷ v) = ap (λ (l : List ℕ). x ∷ l) (values-back v)
+
+-- the values where there are seven numbers
+pub fields-seven : (s v : List ℕ) → length v ≡ 7 → map numberOf (parts 44 s) ≡ map Is v
+    → record { good = true; values = v } ≡ fieldsOf s
+unfolding fieldsOf fieldsBy
+fields-seven s v h e =
+    rw (e, eq-eqb (length (map Is v)) 7 (length-map v Is ∙ h), all-are v, values-back v)
+
+-- one value more
+pub value-more : (v : List ℕ) (k x : ℕ) (ns : List Number) → k < length v
+    → map Is (take k v) ++ (Is x ∷ ns) ≡ map Is (take (k + 1) (set v k x)) ++ ns
+value-more v k x ns h =
+    sym
+    (rw (add-one k, take-suc-set v k x h, map-append Is (take k v) (x ∷ []))
+    (append-assoc (map Is (take k v)) (Is x ∷ []) ns))
+
+-- ---- a key
+
+-- a line is at least as long as a key that it starts with
+pub starts-long : (key l : List ℕ) → starts key l ≡ true → length key ≤ length l
+unfolding starts
+starts-long [] l e = omega arith
+starts-long (k ∷ key) [] e = absurd (no e)
+  where
+    no : false ≡ true → ⊥
+    no f = let z : _≡_ {A = ℕ} 0 1 = cc in omega arith
+starts-long (k ∷ key) (x ∷ l) e = go (eqb x k) e (starts-long key l)
+  where
+    go : (t : Bool) → (t && starts key l) ≡ true → (starts key l ≡ true → length key ≤ length l)
+        → suc (length key) ≤ suc (length l)
+    go true f r = let h = r f in omega arith
+    go false f r = let z : _≡_ {A = ℕ} 0 1 = cc in absurd (omega arith)

@@ -1,6 +1,5 @@
 pub mod Written
 pub mod Decimal
 pub mod Line
-pub mod Front
 pub mod Laws
 pub mod Computed

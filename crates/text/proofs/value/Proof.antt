@@ -2,7 +2,8 @@
 use mathlib.Core.Path.{sym, _∙_}
 use native.Mathlib.Omega.{arith}
 use borrow.Author.Needs.{needs}
-use Rattle.text.proofs.Steps.{starts-long, value-of, value-not}
+use Rattle.text.specs.Laws.{starts-long}
+use Rattle.text.proofs.Steps.{value-of, value-not}
 use Rattle.text.proofs.value.Statement.{statement}
 use Rattle.text.proofs.value.Tie as tie
 

@@ -3,7 +3,8 @@ use mathlib.Core.Path.{sym, _∙_}
 use native.Mathlib.Omega.{arith}
 use Rattle.text.specs.Written.{bytes}
 use Rattle.scenario.specs.Format.{eventOf}
-use Rattle.scenario.proofs.Laws.{starts-long, event-is}
+use Rattle.text.specs.Laws.{starts-long}
+use Rattle.scenario.proofs.Laws.{event-is}
 use borrow.Author.Needs.{needs}
 use Rattle.scenario.proofs.reader.event_of.Statement.{statement}
 use Rattle.scenario.proofs.reader.event_of.Tie as tie

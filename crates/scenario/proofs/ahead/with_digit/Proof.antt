@@ -1,8 +1,8 @@
 -- The byte is the digit that it is said to be, and that digit is one.
 use native.Mathlib.Omega.{arith}
 use borrow.Author.Needs.{needs}
-use Rattle.text.proofs.with_digit.Statement.{statement}
-use Rattle.text.proofs.with_digit.Tie as tie
+use Rattle.scenario.proofs.ahead.with_digit.Statement.{statement}
+use Rattle.scenario.proofs.ahead.with_digit.Tie as tie
 
 returns : tie.Need-returns
 returns c = search needs

@@ -1,8 +1,8 @@
 -- The byte is inside, and is the digit that it is said to be.
 use native.Mathlib.Omega.{arith}
 use borrow.Author.Needs.{needs}
-use Rattle.text.proofs.digit_at.Statement.{statement}
-use Rattle.text.proofs.digit_at.Tie as tie
+use Rattle.scenario.proofs.ahead.digit_at.Statement.{statement}
+use Rattle.scenario.proofs.ahead.digit_at.Tie as tie
 
 shared-slice-read-digit : tie.Need-shared-slice-read-digit
 shared-slice-read-digit c = search needs

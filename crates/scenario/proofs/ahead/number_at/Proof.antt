@@ -3,9 +3,9 @@ use Prim.Native.Nat.{_-_}
 use native.Mathlib.Omega.{arith}
 use lib.ListN.{length}
 use borrow.Author.Needs.{needs}
-use Rattle.text.proofs.Steps.{Digits, digit-first, digit-next, digits-end}
-use Rattle.text.proofs.number_at.Statement.{statement}
-use Rattle.text.proofs.number_at.Tie as tie
+use Rattle.scenario.proofs.Fronts.{Digits, digit-first, digit-next, digits-end}
+use Rattle.scenario.proofs.ahead.number_at.Statement.{statement}
+use Rattle.scenario.proofs.ahead.number_at.Tie as tie
 
 abbrev Inv-loop : tie.InvT-loop
 Inv-loop s at b none first v₀ i₀ v i = Digits s at v i

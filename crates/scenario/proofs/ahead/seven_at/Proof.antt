@@ -3,9 +3,9 @@ use mathlib.Core.Path.{refl}
 use Prim.Native.Nat.{_-_}
 use native.Mathlib.Omega.{arith}
 use borrow.Author.Needs.{needs}
-use Rattle.text.proofs.Steps.{Begun, line-begun, begun-more, begun-all}
-use Rattle.text.proofs.seven_at.Statement.{statement}
-use Rattle.text.proofs.seven_at.Tie as tie
+use Rattle.scenario.proofs.Fronts.{Begun, line-begun, begun-more, begun-all}
+use Rattle.scenario.proofs.ahead.seven_at.Statement.{statement}
+use Rattle.scenario.proofs.ahead.seven_at.Tie as tie
 
 abbrev Inv-loop : tie.InvT-loop
 Inv-loop s at v₀ k₀ i₀ v k i = Begun s at v k i
