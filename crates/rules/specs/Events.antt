@@ -22,6 +22,7 @@ eventAt l k = record {
   writes = getD l (k * 7 + 6) 0;
 }
 
--- why a run of n events with so much room for answers is refused, or 0
+-- why a run of n events with so much room for answers is refused, or 0: `runAnswer` of document 01, of which the code knows
+-- the events by their number alone (proofs/Running.antt)
 unfoldable pub runRefusal : ℕ → ℕ → State → ℕ
 runRefusal n room s = firstOf (given 31 (ltb maxEvents n) ∷ given 32 (ltb room n) ∷ given 1 (not (inRange s)) ∷ [])
