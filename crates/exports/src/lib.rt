@@ -1,4 +1,6 @@
 // The library for programs in other languages. A lent list passes as a pointer and a length.
+#![tactic(auto)]
+
 ghost use Rattle.std.specs.Prelude.{◌≡◌, length};
 ghost use Rattle.protocol.specs.Run.{events_of, answers_after};
 ghost use Rattle.scenario.specs.Format.{read_into};

@@ -6,11 +6,11 @@ use Rattle.std.proofs.Math.Path.{sym, subst}
 use Rattle.std.proofs.Common.{ap, ◌∙◌}
 use Rattle.std.proofs.Math.Bool.{true, not-not, and-true, and-false, or-false, and_assoc, and-eq-true_iff}
 use Rattle.std.proofs.lemmas.Bool.{false≢true}
-use Rattle.std.proofs.Math.Logic.{Iff·trans}
+use Rattle.std.proofs.Math.Logic.Iff.{trans as Iff-trans}
 use native.Mathlib.Omega.{arith}
 use borrow.Author.Tests.{eqb-true, eq-eqb, ne_eqb, leb-true, ltb-true, not-true}
 use Rattle.protocol.specs.Lists.{table, table_from}
-use Rattle.protocol.specs.State.{max_events, empty_state, status_at}
+use Rattle.protocol.specs.State.{max_events, empty_state}
 use Rattle.protocol.specs.Check.{Check, given, first_of}
 use Rattle.protocol.specs.Setup.{sites_fine, setup_checks, setup_answer}
 use Rattle.protocol.specs.Range.{table_fine, in_range}
@@ -111,7 +111,7 @@ first_decides : (l : List Check) → distinct l ≡ true → Decides l (first_of
 first_decides l d k =
     let before : Bool = none_applies (take k l) in
     let here : Bool = (line_at l k).applies in
-    Iff·trans (exactly (first_of l) (line_at l k).number (before && here) (first_at l k d)) (and-eq-true_iff before here)
+    Iff-trans (exactly (first_of l) (line_at l k).number (before && here) (first_at l k d)) (and-eq-true_iff before here)
 
 -- "given exactly when .. Checks run in the order of the table": the answer of an event, 1 to 11 or 0
 pub checked_in_order : (s : State) (e : Event) → Decides (checks s e) (answer s e)
@@ -206,7 +206,7 @@ pub done_exactly : (s : State) (e : Event)
 unfolding answer checks checks_in_range none_applies allowed well_formed distinct fresh
 done_exactly s e =
     let on : Bool = enabled (action_of e) s e.site e.txn in
-    Iff·trans
+    Iff-trans
     (exactly (answer s e) 0 (in_range s && (well_formed s e && on))
     (first_at (checks s e) 11 refl
     ∙ three_groups (in_range s) (not (no_action e)) (not (no_site s e)) (not (no_transaction s e)) (not (ill_filled s.sites e))

@@ -45,6 +45,7 @@ in_put p t x l m true e f (Memᴰ.tail h) = (Memᴰ.tail (f h).0, (f h).1)
 in_put p t x l m false e f h = (Memᴰ.tail (f h).0, (f h).1)
 
 pub keep_in : (p : ℕ → Bool) {t : ℕ} (l : List ℕ) → Memᴰ t (keep p l) → Memᴰ t l × (p t ≡ true)
+keep_in p {t = t} [] h = elim h [ ]
 keep_in p {t} (x ∷ l) h = in_put p t x l (keep p l) (p x) refl (λ m. keep_in p l m) h
 
 pub keep_ext : (p q : ℕ → Bool) (l : List ℕ) → ((t : ℕ) → Memᴰ t l → p t ≡ q t) → keep p l ≡ keep q l

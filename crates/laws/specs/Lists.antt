@@ -1,8 +1,8 @@
 -- The laws of the definitions on lists and on numbers below n.
-use Prim.Native.Nat.{ℕ, zero, suc, ◌+◌, ◌≤◌, ◌<◌}
+use Prim.Native.Nat.{ℕ, zero, suc, ◌+◌, ◌<◌}
 use Rattle.std.specs.Prelude.{◌≡◌, Bool, true, false, cond, ◌&&◌, ◌||◌, ◌⊎◌, length, set, slice_index_or, ◌==◌}
 use Rattle.std.proofs.Math.Path.{refl, sym, ap}
-use Rattle.std.proofs.Common.{ap₂, ◌∙◌, subst, inl, inr, ⊎_elim, not-suc-le-zero, le_of_suc-le-suc, eq-or-lt_of_le, add-zero, suc-add, add-suc, zero-add, lt-suc_self, add_assoc, arith, get_or-set_same, get_or-set_other}
+use Rattle.std.proofs.Common.{ap₂, ◌∙◌, subst, ⊎_elim, not-suc-le-zero, le_of_suc-le-suc, eq-or-lt_of_le, add-zero, suc-add, add-suc, zero-add, lt-suc_self, add_assoc, arith, get_or-set_same, get_or-set_other}
 use Rattle.std.proofs.Math.Bool.{or-true}
 use Rattle.std.proofs.lemmas.Bool.{false≢true}
 use mathlib.Core.List.{List, [], ◌∷◌, ◌++◌}

@@ -1,7 +1,7 @@
 -- A run that starts in the state of an accepted setup: it is not refused, and has one answer an event.
 use Rattle.std.specs.Prelude.{ℕ, ◌≤◌, ◌/◌, ◌≡◌, refl, Bool, true, false, cond, List, [], ◌∷◌, length, take, nat_le}
-use Rattle.std.proofs.Common.{ap, arith, le-ltb}
-use Rattle.protocol.specs.State.{max_txns, max_events, empty_state}
+use Rattle.std.proofs.Common.{arith, le-ltb}
+use Rattle.protocol.specs.State.{max_txns, max_events}
 use Rattle.protocol.specs.Check.{first_of}
 use Rattle.protocol.specs.Setup.{sites_fine, setup, setup_of}
 use Rattle.protocol.specs.Range.{in_range}

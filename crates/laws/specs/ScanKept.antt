@@ -4,7 +4,7 @@ use Rattle.std.proofs.Math.Path.{refl, sym}
 use Rattle.std.proofs.Common.{◌∙◌, arith, ne_eqb}
 use Rattle.std.proofs.Math.Bool.{false≢true}
 use Rattle.std.proofs.Math.Logic.{⊎_elim}
-use Rattle.sets.specs.Set.{width, has, without, those}
+use Rattle.sets.specs.Set.{width, has, without}
 use Rattle.sets.specs.Laws.{has-none, has-those, has-with_other, has-without_same}
 use Rattle.protocol.specs.Lists.{store_at}
 use Rattle.protocol.specs.State.{max_txns, idle, blocked, precommit, committed, aborted, status_in, txn_in, txn_at, place_at}

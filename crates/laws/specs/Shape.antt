@@ -1,6 +1,6 @@
 -- The lengths of the lists that a state holds. Every state that code has in hand has them, for its arrays do; setup gives
 -- them and every event keeps them.
-use Rattle.std.specs.Prelude.{ℕ, ◌<◌, ◌≡◌, List, length}
+use Rattle.std.specs.Prelude.{ℕ, ◌<◌, ◌≡◌, length}
 use Rattle.protocol.specs.State.{max_sites, max_txns, objects, row_at, place_at, txn_at}
 use Rattle.protocol.specs.declared.Row.{Row}
 use Rattle.protocol.specs.declared.Place.{Place}

@@ -1,5 +1,5 @@
 -- What may happen at a site, each with what it keeps: the lengths, and the facts of the range test.
-use Rattle.std.specs.Prelude.{ℕ, ◌+◌, ◌≤◌, ◌<◌, ◌≡◌, Bool, true, false, List, [], ◌∷◌, ◌++◌, length, set, take, ◌==◌, slice_index_or, nat_lt}
+use Rattle.std.specs.Prelude.{ℕ, ◌+◌, ◌≤◌, ◌<◌, ◌≡◌, Bool, true, false, List, [], ◌∷◌, ◌++◌, length, ◌==◌, slice_index_or, nat_lt}
 use Rattle.std.proofs.Math.Path.{refl}
 use Rattle.std.proofs.Common.{sym, ap, ◌∙◌, subst, ⊎_elim, add-one, arith, length-set, length-take-le, take-suc-set, get_or-set_other}
 use Rattle.std.proofs.Math.Bool.{cond}

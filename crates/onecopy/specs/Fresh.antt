@@ -152,7 +152,7 @@ module _ (sites : ℕ) (es : List Entry) (fits : length es ≤ max_txns) where
 
 -- an accepted setup begins a run
 pub setup_reached : (sites : ℕ) (es : List Entry) → setup_answer sites es ≡ 0 → Reached (setup sites es).state [] (λ u. 0)
-unfolding setup
+unfolding setup fresh_state
 setup_reached sites es z =
     let k = setup_ranged sites es z in
     let e : (setup sites es).state ≡ fresh_state sites es = rw z in
@@ -161,6 +161,6 @@ setup_reached sites es z =
     rw e (record {
       fine = f;
       spent = λ j u. 0;
-      good = first_good sites es (unfold fresh_state in (count_fits (fresh_state sites es) f.ranged.table));
+      good = first_good sites es (count_fits (fresh_state sites es) f.ranged.table);
       counted = λ u. total-zero (fresh_state sites es).sites;
     })

@@ -49,6 +49,7 @@ before-put x y z l m true f g (later h) = later (g h)
 before-put x y z l m false f g h = later (g h)
 
 keep-before : (p : ℕ → Bool) {x y : ℕ} (l : List ℕ) → Before x y (keep p l) → Before x y l
+keep-before p [] h = elim h [ ]
 keep-before p {x} {y} (z ∷ l) h =
     before-put x y z l (keep p l) (p z) (λ i. (keep_in p l i).0) (λ b. keep-before p l b) h
 

@@ -173,7 +173,8 @@ module _ (s : View) (t : ℕ) (p q : ℕ → Bool) (g : s.status (s.home t) t �
         read = ends_read;
         held_still = ends_still;
         serial =
-            serial_ext _ _ _ _ s.logs.list (λ o. refl) (λ u o k. (rw (ends_list u k), rw (ends_list u k))) h.serial;
+            serial_ext s.sets (ends_operation s t p q).sets _ _ s.logs.list (λ o. refl)
+            (λ u o k. (rw (ends_list u k), rw (ends_list u k))) h.serial;
       }
 
 -- ---- t commits at site i

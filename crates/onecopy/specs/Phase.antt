@@ -50,6 +50,7 @@ pub begin_commit : {j k : ℕ} {a r c x m q : Bool} → Phase active j a r c x m
 begin_commit (early works) = sent
 
 pub end_commit : {j k : ℕ} {a r c x q : Bool} → Phase precommit j a r c x false q k → Phase committed j a r true x false q (suc k)
+end_commit (early u) = elim u [ ]
 end_commit (acked e) = comes e
 
 pub quit_active : {j k : ℕ} {a r c x m q : Bool} → Phase active j a r c x m q k → Phase aborted j a r c x m q k
@@ -59,6 +60,7 @@ pub quit_blocked : {j k : ℕ} {a r c x m q : Bool} → Phase blocked j a r c x 
 quit_blocked (early blocks) = quit
 
 pub quit_asked : {j k : ℕ} {a r c x m q : Bool} → Phase precommit j a r c x m q k → Phase aborted j a r c true m q (suc k)
+quit_asked (early u) = elim u [ ]
 quit_asked sent = quit_sent
 quit_asked queues = quit_queues
 quit_asked (runs e) = quit_runs e
@@ -68,6 +70,7 @@ pub receive_ready : {j k : ℕ} {a c x m q : Bool} → Phase precommit j a true 
 receive_ready (runs e) = acked e
 
 pub discard_ready : {j k : ℕ} {a r c x m q : Bool} → Phase aborted j a r c x m q k → Phase aborted j a false c x m q k
+discard_ready (early u) = elim u [ ]
 discard_ready quit = quit
 discard_ready quit_sent = quit_sent
 discard_ready quit_queues = quit_queues
@@ -92,6 +95,10 @@ pub receive_commit : {h k : ℕ} {a r x m q : Bool} → Phase h precommit a r tr
 receive_commit (comes asks) = done
 
 pub discard_remote : {h k : ℕ} {a r c x m q : Bool} → Phase h aborted a r c x m q k → Phase h aborted false r c x m q k
+discard_remote (runs u) = elim u [ ]
+discard_remote (acked u) = elim u [ ]
+discard_remote (comes u) = elim u [ ]
+discard_remote (quit_runs u) = elim u [ ]
 discard_remote (gone e) = gone e
 
 pub receive_abort : {h j k : ℕ} {a r c m q : Bool} → Phase h j a r c true m q k → Phase h aborted a r c false m false k
@@ -107,19 +114,29 @@ away_unfinished asks e = omega arith
 
 -- Done: what home has committed executes at the site or is committed there
 pub home_committed : {j k : ℕ} {a r c x m q : Bool} → Phase committed j a r c x m q k → Away j ⊎ (j ≡ committed)
+home_committed (early u) = elim u [ ]
 home_committed (comes e) = inl e
 home_committed done = inr refl
 
 -- Never-alone: what the site has committed home has committed
 pub site_committed : {h k : ℕ} {a r c x m q : Bool} → Phase h committed a r c x m q k → h ≡ committed
+site_committed (runs u) = elim u [ ]
+site_committed (acked u) = elim u [ ]
+site_committed (comes u) = elim u [ ]
+site_committed (quit_runs u) = elim u [ ]
 site_committed done = refl
 
 -- Undone: what is aborted at the site is aborted at home
 pub site_aborted : {h k : ℕ} {a r c x m q : Bool} → Phase h aborted a r c x m q k → h ≡ aborted
+site_aborted (runs u) = elim u [ ]
+site_aborted (acked u) = elim u [ ]
+site_aborted (comes u) = elim u [ ]
+site_aborted (quit_runs u) = elim u [ ]
 site_aborted (gone e) = refl
 
 -- Asked: what home asks for, and the site has answered, executes at the site
 pub answered : {j k : ℕ} {a r c x q : Bool} → Phase precommit j a r c x false q k → Away j
+answered (early u) = elim u [ ]
 answered (acked e) = e
 
 -- Commit: home has committed what a commit is about
@@ -145,6 +162,7 @@ no_ready queues = refl
 no_ready quit_queues = refl
 
 pub asked-quiet : {j k : ℕ} {a r c x m q : Bool} → Phase precommit j a r c x m q k → (c ≡ false) × (x ≡ false)
+asked-quiet (early u) = elim u [ ]
 asked-quiet sent = (refl, refl)
 asked-quiet queues = (refl, refl)
 asked-quiet (runs e) = (refl, refl)
@@ -152,10 +170,15 @@ asked-quiet (acked e) = (refl, refl)
 
 -- no commit and no abort is on its way to a site where it is aborted
 pub aborted-quiet : {h k : ℕ} {a r c x m q : Bool} → Phase h aborted a r c x m q k → (c ≡ false) × (x ≡ false)
+aborted-quiet (runs u) = elim u [ ]
+aborted-quiet (acked u) = elim u [ ]
+aborted-quiet (comes u) = elim u [ ]
+aborted-quiet (quit_runs u) = elim u [ ]
 aborted-quiet (gone e) = (refl, refl)
 
 -- the messages of one site: three where home has committed, else at most three
 pub spent_committed : {j k : ℕ} {a r c x m q : Bool} → Phase committed j a r c x m q k → k ≡ 3
+spent_committed (early u) = elim u [ ]
 spent_committed (comes e) = refl
 spent_committed done = refl
 

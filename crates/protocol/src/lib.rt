@@ -1,5 +1,6 @@
 // What document 01 and Figure 2 speak of, as types by value. Nothing runs here: the definitions over these types stand
 // in specs/, the code that does what they say in the crate rules.
+#![tactic(auto)]
 
 // How many sites a state has room for: the most that a setup may ask for. The definitions call it max_sites.
 pub const SITES: usize = 8;
@@ -59,20 +60,20 @@ pub const TOO_MANY_EVENTS: u32 = 31;
 pub const NO_ROOM: u32 = 32;
 
 // One entry of the lent table of transactions: home site and priority.
-#[derive(Drop)]
+#[derive(Clone, Copy)]
 pub struct Entry {
     pub home: u32,
     pub priority: u32,
 }
 
 // The statuses at one site, one for each transaction.
-#[derive(Drop)]
+#[derive(Clone, Copy)]
 pub struct Row {
     pub status: [u8; 32],
 }
 
 // A commit log: the transactions that have committed at a site, in that order. Entries from `length` on mean nothing.
-#[derive(Drop)]
+#[derive(Clone, Copy)]
 pub struct Log {
     pub length: u32,
     pub entries: [u8; 32],
@@ -80,7 +81,7 @@ pub struct Log {
 
 // The messages on their way to one site. Remote, commit and abort are sets of the transactions that a message is about;
 // ready is, for each transaction, the set of the sites that sent one.
-#[derive(Drop)]
+#[derive(Clone, Copy)]
 pub struct Channel {
     pub remote: u32,
     pub ready: [u32; 32],
@@ -90,7 +91,7 @@ pub struct Channel {
 
 // What belongs to one site besides its statuses. The version of an object is 0 at first, and t + 1 once transaction t
 // has committed a write of it.
-#[derive(Drop)]
+#[derive(Clone, Copy)]
 pub struct Place {
     pub queue: u32,
     pub remove: bool,
@@ -101,7 +102,7 @@ pub struct Place {
 
 // What belongs to one transaction besides its statuses. Reads and writes are sets of objects, missing is the set of the
 // sites whose ready is missing. Of an object, noted is 0 where no version was noted, and v + 1 where version v was.
-#[derive(Drop)]
+#[derive(Clone, Copy)]
 pub struct Txn {
     pub home: u32,
     pub priority: u32,
@@ -114,7 +115,7 @@ pub struct Txn {
 }
 
 // The whole state. `count` is the number of transactions. Rows, places and transactions beyond the counts mean nothing.
-#[derive(Drop)]
+#[derive(Clone, Copy)]
 pub struct State {
     pub sites: u32,
     pub count: u32,
@@ -124,14 +125,14 @@ pub struct State {
 }
 
 // What a setup gives: 0 and the fresh state, or the number of its refusal and the empty state.
-#[derive(Drop)]
+#[derive(Clone, Copy)]
 pub struct Started {
     pub answer: u32,
     pub state: State,
 }
 
 // An event, as the caller fills it.
-#[derive(Drop)]
+#[derive(Clone, Copy)]
 pub struct Event {
     pub action: u32,
     pub site: u32,
@@ -143,7 +144,7 @@ pub struct Event {
 }
 
 // A message is one of four kinds; a ready carries the site that it came from.
-#[derive(Drop)]
+#[derive(Clone, Copy)]
 pub enum Message {
     Remote,
     Ready(u32),
@@ -153,7 +154,7 @@ pub enum Message {
 
 // What an event asks for, once its fields are known to be well filled: one of the twelve actions of Figure 2, of which
 // four receive a message.
-#[derive(Drop)]
+#[derive(Clone, Copy)]
 pub enum Action {
     Create,
     BeginOperation { reads: u32, writes: u32 },
@@ -168,7 +169,7 @@ pub enum Action {
 
 // What a scan carries from one queued transaction to the next: the rest of the queue, the statuses at the site, those
 // that wait, those about which abort goes to all other sites, and those about which ready goes to their home.
-#[derive(Drop)]
+#[derive(Clone, Copy)]
 pub struct Scan {
     pub rest: u32,
     pub row: Row,
@@ -178,14 +179,14 @@ pub struct Scan {
 }
 
 // What an action that is enabled leaves: the state, and how many messages it sent.
-#[derive(Drop)]
+#[derive(Clone, Copy)]
 pub struct Done {
     pub state: State,
     pub sent: u32,
 }
 
 // What an event returns.
-#[derive(Drop)]
+#[derive(Clone, Copy)]
 pub struct Stepped {
     pub answer: u32,
     pub sent: u32,
@@ -194,7 +195,7 @@ pub struct Stepped {
 
 // What a run returns besides the answers that it writes: 0 or the number of its refusal, the sum of the messages sent,
 // and the state.
-#[derive(Drop)]
+#[derive(Clone, Copy)]
 pub struct Ran {
     pub answer: u32,
     pub sent: u32,

@@ -1,5 +1,7 @@
 // The stored scenarios through the library. The file args names them; NAME.scenario is a text and NAME.report what must
 // come back, to the byte. The file stdout has what this program must print: every scenario the same.
+#![tactic(auto)]
+
 ghost use Rattle.std.specs.Prelude.{◌≤◌, length};
 ghost use Rattle.io.specs.Counts.{IsPrefixLen};
 

@@ -1,4 +1,6 @@
 // The program: a scenario on standard input, its report on standard output.
+#![tactic(auto)]
+
 use libc::{STDIN_FILENO, STDOUT_FILENO};
 use scenario::{MAX_TEXT, REPORT_ROOM};
 

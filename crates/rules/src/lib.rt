@@ -1,5 +1,7 @@
 // The code: setup, step and run, each of which promises what the definitions of the crate protocol say, for every input.
 // Below them stand functions on a row, a site, a transaction or the table, so that no event copies the state.
+#![tactic(auto)]
+
 ghost use Rattle.std.specs.Prelude.{◌≡◌, length};
 ghost use Rattle.protocol.specs.Setup.{setup, setup_of};
 ghost use Rattle.protocol.specs.Answer.{step};
@@ -31,7 +33,7 @@ use protocol::{
 
 // What an event reads of the state and can change there, but for the channels of other sites: the statuses at its site, what
 // else belongs to the site, and its transaction.
-#[derive(Drop)]
+#[derive(Clone, Copy)]
 pub(crate) struct Here {
     pub row: Row,
     pub place: Place,
@@ -40,7 +42,7 @@ pub(crate) struct Here {
 
 // What the table of transactions tells an event: whether its end of operation meets a lock clash at home, and the scan of
 // its site as it ends, or as it begins where the event scans nothing.
-#[derive(Drop)]
+#[derive(Clone, Copy)]
 pub(crate) struct Told {
     pub clash: bool,
     pub scan: Scan,
@@ -48,7 +50,7 @@ pub(crate) struct Told {
 
 // What an event leaves: its answer, how many messages it sent, what it makes of the parts that it read, a message with the
 // set of the transactions about which it goes to all other sites, and the set of those about which ready goes to their home.
-#[derive(Drop)]
+#[derive(Clone, Copy)]
 pub(crate) struct Turn {
     pub answer: u32,
     pub sent: u32,
@@ -59,7 +61,7 @@ pub(crate) struct Turn {
 }
 
 // What the number of an event asks for.
-#[derive(Drop)]
+#[derive(Clone, Copy)]
 pub(crate) enum Asked {
     Known(Action),
     Unknown,

@@ -6,14 +6,14 @@ ghost use Rattle.scenario.specs.Front.{NumberAt, FieldsAt};
 use text::Fields;
 
 // A decimal that was found at a place, and the place after the byte that ends it: 0 where none was found.
-#[derive(Drop)]
+#[derive(Clone, Copy)]
 pub(crate) struct Found {
     pub next: usize,
     pub value: u32,
 }
 
 // The seven values of a line that was found at a place, and the place after its line feed: 0 where none was found.
-#[derive(Drop)]
+#[derive(Clone, Copy)]
 pub(crate) struct Line {
     pub next: usize,
     pub fields: Fields,

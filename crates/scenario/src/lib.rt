@@ -1,4 +1,6 @@
 // The scenario: the text that a user writes and the report that comes back.
+#![tactic(auto)]
+
 ghost use Rattle.std.specs.Prelude.{◌≡◌, length};
 ghost use Rattle.scenario.specs.Report.{report_of, reported, reported_in};
 
@@ -8,7 +10,7 @@ use protocol::ACCEPTED;
 
 // Which line is wanted next: the number of sites, the number of transactions, a transaction's home, its priority, the
 // number of events, an event, nothing more; or the last line was not of the form.
-#[derive(Drop)]
+#[derive(Clone, Copy)]
 pub enum Want {
     Sites,
     Count,
@@ -22,7 +24,7 @@ pub enum Want {
 
 // How far a text has been read: which line is wanted, its number, how many of its kind have been, and the numbers of
 // sites, transactions and events that the text announces. After a fault `line` is the number of the line at fault.
-#[derive(Drop)]
+#[derive(Clone, Copy)]
 pub struct Reading {
     pub want: Want,
     pub line: u64,
@@ -33,7 +35,7 @@ pub struct Reading {
 }
 
 // What became of a report: 0 and its length, or the number of its refusal and 0.
-#[derive(Drop)]
+#[derive(Clone, Copy)]
 pub struct Reported {
     pub answer: u32,
     pub length: usize,

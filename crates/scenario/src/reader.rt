@@ -12,14 +12,14 @@ use protocol::Entry;
 use text::{Fields, Number};
 
 // What the value of a line is, and the place of the next line.
-#[derive(Drop)]
+#[derive(Clone, Copy)]
 struct Valued {
     next: usize,
     number: Number,
 }
 
 // Where a line takes the reading to, and the place of the next line.
-#[derive(Drop)]
+#[derive(Clone, Copy)]
 struct Turn {
     next: usize,
     reading: Reading,

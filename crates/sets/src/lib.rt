@@ -1,5 +1,7 @@
 // Sets of small numbers as 32-bit masks: k is in a set where digit k of its mask is 1.
 // Every function takes every mask and every number; a number of 32 or more is in no set.
+#![tactic(auto)]
+
 ghost use Rattle.std.specs.Prelude.{◌≡◌};
 ghost use Rattle.sets.specs.Set.{has, is_empty, with, without, union, minus, overlap, first, all_but, size};
 

@@ -1,17 +1,19 @@
 // Bytes: decimals, the parts of a line, keys and values. Every function takes every slice.
+#![tactic(auto)]
+
 ghost use Rattle.std.specs.Prelude.{◌≡◌, ◌+◌, ◌≤◌, min, length, drop};
 ghost use Rattle.text.specs.Decimal.{goes_on, number_of};
 ghost use Rattle.text.specs.Line.{before, starts as starts_with, value_of, no_fields, fields_of};
 
 // What a list of bytes is, read as a decimal.
-#[derive(Drop)]
+#[derive(Clone, Copy)]
 pub enum Number {
     Is(u32),
     Not,
 }
 
 // The seven values of a line, if it has seven.
-#[derive(Drop)]
+#[derive(Clone, Copy)]
 pub struct Fields {
     pub good: bool,
     pub values: [u32; 7],

@@ -1,0 +1,164 @@
+use Rattle.std.proofs.Common.{◌+◌, ◌-◌, ◌/◌, ◌<◌, ◌≡◌, sym, ap, ◌∙◌, subst, arith, ⊎_elim, rules, length, set}
+use Rattle.laws.specs.Runs.{events-length}
+use Rattle.protocol.specs.Answer.{step}
+use Rattle.protocol.specs.Run.{events_of}
+use Rattle.protocol.specs.declared.State.{State}
+use Rattle.rules.proofs.Bounds.{count_below, site_at, txn_at_lem, versions_below}
+use Rattle.rules.proofs.EventList.{events_from}
+use Rattle.rules.proofs.Running.{Going, going_begun, going_turned, finished}
+use Rattle.rules.proofs.Sent.{all_posted, nothing-posted}
+use Rattle.rules.proofs.Shape.{shaped}
+use Rattle.rules.proofs.Turns.{told_nothing, returned, turn_taken, turn_few}
+use Rattle.rules.specs.Turn.{with_here, posted}
+use Rattle.sets.specs.Set.{is_empty}
+use borrow.Author.Tests.{not-false}
+use Rattle.rules.proofs.course.performed.Goals.{else-asks_table, then-asks_table}
+use Rattle.rules.proofs.course.performed.Goals as goal
+
+pub loop-k-init : goal.loop-k-init
+loop-k-init c = (
+  search rules,
+  search rules,
+  going_begun _ (events_of c.args.events.now) c.args.answers.now (shaped _ _ c.well-formed.0) c.requires.0,
+)
+
+pub event_at-e-requires : goal.event_at-e-requires
+event_at-e-requires c = omega (arith, c.requires.1)
+
+pub offset_bounds-state-i : goal.offset_bounds-state-i
+offset_bounds-state-i c =
+    omega (arith, (site_at _ c.loop-k.invariant.2.ranged _ _ c.index-i.ensures).1)
+
+pub bounds-state-i : goal.bounds-state-i
+bounds-state-i c =
+    (site_at _ c.loop-k.invariant.2.ranged _ _ c.index-i.ensures).1
+
+pub offset_bounds-state-i-in-loop-k : goal.offset_bounds-state-i-in-loop-k
+offset_bounds-state-i-in-loop-k c =
+    omega (arith, (site_at _ c.loop-k.invariant.2.ranged _ _ c.index-i.ensures).1)
+
+pub bounds-state-i-in-loop-k : goal.bounds-state-i-in-loop-k
+bounds-state-i-in-loop-k c =
+    (site_at _ c.loop-k.invariant.2.ranged _ _ c.index-i.ensures).1
+
+pub offset_bounds-state-t : goal.offset_bounds-state-t
+offset_bounds-state-t c =
+    omega (arith, txn_at_lem _ c.loop-k.invariant.2.ranged _ _ c.index-t.ensures)
+
+pub bounds-state-t : goal.bounds-state-t
+bounds-state-t c =
+    txn_at_lem _ c.loop-k.invariant.2.ranged _ _ c.index-t.ensures
+
+pub overflow_cast-state : goal.overflow_cast-state
+overflow_cast-state c =
+    omega (arith, count_below _ c.loop-k.invariant.2.ranged)
+
+pub consulted-told-requires : goal.consulted-told-requires
+consulted-told-requires c =
+    (sym c.asks_table.ensures ∙ c.if-asks_table.true, count_below _ c.loop-k.invariant.2.ranged, txn_at_lem _ c.loop-k.invariant.2.ranged _ _ c.index-t.ensures)
+
+pub turn_of-d-requires : goal.turn_of-d-requires
+turn_of-d-requires c =
+    (count_below _ c.loop-k.invariant.2.ranged, versions_below _ c.loop-k.invariant.2.ranged _ (site_at _ c.loop-k.invariant.2.ranged _ _ c.index-i.ensures).0)
+
+pub overflow_cast-answers : goal.overflow_cast-answers
+overflow_cast-answers c =
+    let w =
+    elim c.if-asks_table.branch [ then-asks_table w ↦ w.3 ∙ w.2.ensures | else-asks_table w ↦ w.2 ∙ w.1.ensures ∙ told_nothing _ _ _ _ _ _ (sym c.asks_table.ensures ∙ w.left) ] in
+    omega (
+      arith,
+      (turn_few _ _ c.loop-k.invariant.2.ranged _ _ c.index-i.ensures c.index-t.ensures _ w _ c.turn_of-d.ensures).0,
+    )
+
+pub bounds-answers-k : goal.bounds-answers-k
+bounds-answers-k c =
+    omega (arith, c.loop-k-test.true, c.loop-k.invariant.2.room, c.requires.2)
+
+pub overflow_add-sent : goal.overflow_add-sent
+overflow_add-sent c =
+    let w =
+    elim c.if-asks_table.branch [ then-asks_table w ↦ w.3 ∙ w.2.ensures | else-asks_table w ↦ w.2 ∙ w.1.ensures ∙ told_nothing _ _ _ _ _ _ (sym c.asks_table.ensures ∙ w.left) ] in
+    omega (
+      arith,
+      c.loop-k-test.true,
+      c.loop-k.invariant.1,
+      c.requires.1,
+      (turn_few _ _ c.loop-k.invariant.2.ranged _ _ c.index-i.ensures c.index-t.ensures _ w _ c.turn_of-d.ensures).1,
+    )
+
+pub offset_bounds-state-i-in-loop-k-2 : goal.offset_bounds-state-i-in-loop-k-2
+offset_bounds-state-i-in-loop-k-2 c =
+    omega (arith, (site_at _ c.loop-k.invariant.2.ranged _ _ c.index-i.ensures).1)
+
+pub bounds-state-i-in-loop-k-2 : goal.bounds-state-i-in-loop-k-2
+bounds-state-i-in-loop-k-2 c =
+    (site_at _ c.loop-k.invariant.2.ranged _ _ c.index-i.ensures).1
+
+pub offset_bounds-state-i-in-loop-k-3 : goal.offset_bounds-state-i-in-loop-k-3
+offset_bounds-state-i-in-loop-k-3 c =
+    omega (arith, (site_at _ c.loop-k.invariant.2.ranged _ _ c.index-i.ensures).1)
+
+pub bounds-state-i-in-loop-k-3 : goal.bounds-state-i-in-loop-k-3
+bounds-state-i-in-loop-k-3 c =
+    (site_at _ c.loop-k.invariant.2.ranged _ _ c.index-i.ensures).1
+
+pub offset_bounds-state-t-in-loop-k : goal.offset_bounds-state-t-in-loop-k
+offset_bounds-state-t-in-loop-k c =
+    omega (arith, txn_at_lem _ c.loop-k.invariant.2.ranged _ _ c.index-t.ensures)
+
+pub bounds-state-t-in-loop-k : goal.bounds-state-t-in-loop-k
+bounds-state-t-in-loop-k c =
+    txn_at_lem _ c.loop-k.invariant.2.ranged _ _ c.index-t.ensures
+
+pub posted-qs-requires : goal.posted-qs-requires
+posted-qs-requires c =
+    omega (arith, (site_at _ c.loop-k.invariant.2.ranged _ _ c.index-i.ensures).1)
+
+pub overflow_add-k : goal.overflow_add-k
+overflow_add-k c =
+    omega (arith, c.loop-k-test.true, c.requires.1)
+
+pub loop-k-smaller : goal.loop-k-smaller
+loop-k-smaller c =
+    omega (arith, c.loop-k-test.true)
+
+pub loop-k-preserved : goal.loop-k-preserved
+loop-k-preserved c =
+    let k : c.loop-k.k < length c.args.events.now / 7 = c.loop-k-test.true in
+    let here = with_here c.loop-k.state c.index-i.result c.index-t.result c.turn_of-d.result.here in
+    let w =
+    elim c.if-asks_table.branch [ then-asks_table w ↦ w.3 ∙ w.2.ensures | else-asks_table w ↦ w.2 ∙ w.1.ensures ∙ told_nothing _ _ _ _ _ _ (sym c.asks_table.ensures ∙ w.left) ] in
+    let new : c.if-not-is_empty.state ≡ posted c.index-i.result c.turn_of-d.result.message c.turn_of-d.result.about c.turn_of-d.result.readies here =
+    ⊎_elim (λ w. w.4 ∙ all_posted c.index-i.result c.turn_of-d.result.message c.turn_of-d.result.about c.turn_of-d.result.readies here _ w.3.ensures)
+    (λ w.
+    w.1
+    ∙ nothing-posted c.index-i.result c.turn_of-d.result.message c.turn_of-d.result.about c.turn_of-d.result.readies here
+    (sym (c.is_empty.ensures ∙ ap is_empty c.union.ensures) ∙ not-false _ w.left))
+    c.if-not-is_empty.branch in (
+      omega (arith, k),
+      omega (
+        arith,
+        c.loop-k.invariant.1,
+        (turn_few c.loop-k.state c.event_at-e.result c.loop-k.invariant.2.ranged c.index-i.result c.index-t.result c.index-i.ensures c.index-t.ensures _ w c.turn_of-d.result c.turn_of-d.ensures).1,
+      ),
+      subst
+          (λ (x : State).
+          Going c.args.s (events_of c.args.events.now) c.args.answers.now (c.loop-k.k + 1) x (c.loop-k.sent + c.turn_of-d.result.sent)
+          (set c.loop-k.answers c.loop-k.k c.turn_of-d.result.answer))
+          (sym new)
+          (going_turned c.args.s (events_of c.args.events.now) c.args.answers.now c.loop-k.k c.loop-k.state c.loop-k.sent c.loop-k.answers _
+          (returned c.loop-k.state c.event_at-e.result c.loop-k.invariant.2.ranged c.index-i.result c.index-t.result c.turn_of-d.result) c.loop-k.invariant.2 (events_from c.args.events.now c.loop-k.k k)
+          (omega (arith, k, c.requires.2))
+          (turn_taken c.loop-k.state c.event_at-e.result c.loop-k.invariant.2.ranged c.index-i.result c.index-t.result c.index-i.ensures c.index-t.ensures _ w c.turn_of-d.result c.turn_of-d.ensures
+          ∙ ap (step c.loop-k.state) c.event_at-e.ensures)),
+    )
+
+pub shape_of-answers : goal.shape_of-answers
+shape_of-answers c = c.loop-k.invariant.2.room
+
+pub returns : goal.returns
+returns c =
+    let f =
+    finished c.args.s (events_of c.args.events.now) c.args.answers.now c.loop-k.k c.loop-k.state c.loop-k.sent c.loop-k.answers c.loop-k.invariant.2
+    (omega (arith, events-length c.args.events.now, c.loop-k-test.false)) in
+    (c.ran.ensures ∙ f.0, f.1)

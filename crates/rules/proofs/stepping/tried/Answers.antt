@@ -1,0 +1,42 @@
+-- Each return is a side of the definition, by the numbers that the checks give.
+use Rattle.std.proofs.Common.{sym, ◌∙◌, arith, eq-eqb, ne_eqb}
+use Rattle.rules.proofs.Checks.{placed}
+use Rattle.rules.specs.Turn.{turn_for}
+use Rattle.rules.proofs.stepping.tried.Goals as goal
+
+pub returns-then-k-ne-ACCEPTED : goal.returns-then-k-ne-ACCEPTED
+unfolding turn_for
+returns-then-k-ne-ACCEPTED c = rw (c.quiet.ensures, ← c.misplaced-k.ensures, ne_eqb _ _ c.if-k-ne-ACCEPTED.true)
+
+pub refusal-j-requires : goal.refusal-j-requires
+refusal-j-requires c =
+    let p = placed _ _ _ _ (sym c.misplaced-k.ensures ∙ c.if-k-ne-ACCEPTED.false) in
+    omega (arith, p.1, c.requires.1)
+
+pub returns-then-j-ne-ACCEPTED : goal.returns-then-j-ne-ACCEPTED
+unfolding turn_for
+returns-then-j-ne-ACCEPTED c =
+    rw (
+      c.quiet-then-j-ne-ACCEPTED.ensures,
+      ← c.refusal-j.ensures,
+      ne_eqb _ _ c.if-j-ne-ACCEPTED.true,
+      ← c.misplaced-k.ensures,
+      eq-eqb _ _ c.if-k-ne-ACCEPTED.false,
+    )
+
+pub effect-requires : goal.effect-requires
+effect-requires c =
+    let p = placed _ _ _ _ (sym c.misplaced-k.ensures ∙ c.if-k-ne-ACCEPTED.false) in
+    (omega (arith, p.1, c.requires.1), c.requires.2)
+
+pub returns : goal.returns
+unfolding turn_for
+returns c =
+    rw (
+      c.effect.ensures,
+      c.all_but.ensures,
+      ← c.refusal-j.ensures,
+      eq-eqb _ _ c.if-j-ne-ACCEPTED.false,
+      ← c.misplaced-k.ensures,
+      eq-eqb _ _ c.if-k-ne-ACCEPTED.false,
+    )
