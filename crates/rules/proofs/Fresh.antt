@@ -20,13 +20,13 @@ use Rattle.protocol.specs.declared.State.{State}
 use Rattle.rules.specs.Copied.{taken_of, from_entry, entered_at, started_row, started_rows, entry_of, refused_by, judged_by, judged_with, judged_of}
 use Rattle.rules.proofs.Loops.{each_to, each_begun, each_turned, each_read}
 
--- ---- tests that the code negates
+-- ---- tests whose results the code asks for
 
-pub holds : {r b : Bool} → r ≡ b → not r ≡ false → b ≡ true
-holds {r} e h = sym e ∙ not-false r h
+pub holds : {r b : Bool} → r ≡ b → r ≡ true → b ≡ true
+holds e h = sym e ∙ h
 
-pub fails : {r b : Bool} → r ≡ b → not r ≡ true → b ≡ false
-fails {r} e h = sym e ∙ not-true r h
+pub fails : {r b : Bool} → r ≡ b → r ≡ false → b ≡ false
+fails e h = sym e ∙ h
 
 -- where the count is fine there is room
 pub few : (n : ℕ) → count_fine n ≡ true → n ≤ max_txns

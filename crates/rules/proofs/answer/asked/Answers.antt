@@ -60,4 +60,4 @@ returns-in-12 c = rw (c.message_of.ensures, c.in-12.is)
 
 pub returns-in-13-to-4294967295 : goal.returns-in-13-to-4294967295
 unfolding asked_by no_action action_of
-returns-in-13-to-4294967295 c = simp (lt-leb c.args.e.action 12 (past 13 c.in-13-to-4294967295.rest), and-false)
+returns-in-13-to-4294967295 c = simp (lt-leb c.args.e.action 12 (past 13 c.in-13-to-4294967295.in-13-to-4294967295-own.rest), and-false)

@@ -28,5 +28,5 @@ returns-in-4 c = rw c.in-4.is
 pub returns-in-5-to-4294967295 : goal.returns-in-5-to-4294967295
 unfolding message_of
 returns-in-5-to-4294967295 c =
-    let far : 4 ≤ c.args.kind - 1 = omega (arith, past 5 c.in-5-to-4294967295.rest) in
+    let far : 4 ≤ c.args.kind - 1 = omega (arith, past 5 c.in-5-to-4294967295.in-5-to-4294967295-own.rest) in
     rw get_or-eq_default

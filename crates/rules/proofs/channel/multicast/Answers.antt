@@ -23,7 +23,7 @@ loop-j-preserved c =
           w.qs-is
           ∙ each_passed _ no_place _ _ _ c.loop-j.invariant.2 (omega arith)
           (rw (put_empty c.args.m _ (slice_index_or c.args.ps c.loop-j.j no_place).channel
-          (sym (c.is_empty.ensures ∙ ap is_empty c.meant-about.ensures) ∙ not-false _ w.if-not-is_empty.false)))
+          (sym (c.is_empty.ensures ∙ ap is_empty c.meant-about.ensures) ∙ w.if-not-is_empty.false)))
       ],
     )
 

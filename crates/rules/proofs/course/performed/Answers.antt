@@ -9,17 +9,16 @@ use Rattle.rules.proofs.Running.{Going, going_begun, going_turned, finished}
 use Rattle.rules.proofs.Sent.{all_posted, nothing-posted}
 use Rattle.rules.proofs.Shape.{shaped}
 use Rattle.rules.proofs.Turns.{told_nothing, returned, turn_taken, turn_few}
-use Rattle.rules.specs.Turn.{with_here, posted}
+use Rattle.rules.specs.Turn.{with_here, here_at, told_of, posted}
 use Rattle.sets.specs.Set.{is_empty}
-use borrow.Author.Tests.{not-false}
-use Rattle.rules.proofs.course.performed.Goals.{else-asks_table, then-asks_table}
+use Rattle.rules.proofs.course.performed.Goals.{then-asks_table, else-asks_table, then-not-is_empty, else-not-is_empty}
 use Rattle.rules.proofs.course.performed.Goals as goal
 
 pub loop-k-init : goal.loop-k-init
 loop-k-init c = (
   search rules,
   search rules,
-  going_begun _ (events_of c.args.events.now) c.args.answers.now (shaped _ _ c.well-formed.0) c.requires.0,
+  going_begun _ (events_of c.args.events.now) c.args.answers.now (shaped _ _ c.well_formed.0) c.requires.0,
 )
 
 pub event_at-e-requires : goal.event_at-e-requires
@@ -55,16 +54,24 @@ overflow_cast-state c =
 
 pub consulted-told-requires : goal.consulted-told-requires
 consulted-told-requires c =
-    (sym c.asks_table.ensures ∙ c.if-asks_table.true, count_below _ c.loop-k.invariant.2.ranged, txn_at_lem _ c.loop-k.invariant.2.ranged _ _ c.index-t.ensures)
+    let f = c.loop-k.invariant.2.ranged in
+    (sym c.asks_table.ensures ∙ c.if-asks_table.true, count_below _ f, txn_at_lem _ f _ _ c.index-t.ensures)
 
 pub turn_of-d-requires : goal.turn_of-d-requires
 turn_of-d-requires c =
-    (count_below _ c.loop-k.invariant.2.ranged, versions_below _ c.loop-k.invariant.2.ranged _ (site_at _ c.loop-k.invariant.2.ranged _ _ c.index-i.ensures).0)
+    let f = c.loop-k.invariant.2.ranged in
+    (count_below _ f, versions_below _ f _ (site_at _ f _ _ c.index-i.ensures).0)
 
 pub overflow_cast-answers : goal.overflow_cast-answers
 overflow_cast-answers c =
-    let w =
-    elim c.if-asks_table.branch [ then-asks_table w ↦ w.3 ∙ w.2.ensures | else-asks_table w ↦ w.2 ∙ w.1.ensures ∙ told_nothing _ _ _ _ _ _ (sym c.asks_table.ensures ∙ w.left) ] in
+    let s = c.loop-k.state in
+    let i = c.index-i.result in
+    let t = c.index-t.result in
+    let w : c.if-asks_table.told ≡ told_of c.event_at-e.result s.count s.txns i t (here_at s i t) =
+    elim c.if-asks_table.branch [
+      then-asks_table w ↦ w.told-is ∙ w.consulted-told.ensures
+    | else-asks_table w ↦ w.told-is ∙ w.untold-told.ensures ∙ told_nothing _ _ _ _ _ _ (sym c.asks_table.ensures ∙ w.if-asks_table.false)
+    ] in
     omega (
       arith,
       (turn_few _ _ c.loop-k.invariant.2.ranged _ _ c.index-i.ensures c.index-t.ensures _ w _ c.turn_of-d.ensures).0,
@@ -76,8 +83,14 @@ bounds-answers-k c =
 
 pub overflow_add-sent : goal.overflow_add-sent
 overflow_add-sent c =
-    let w =
-    elim c.if-asks_table.branch [ then-asks_table w ↦ w.3 ∙ w.2.ensures | else-asks_table w ↦ w.2 ∙ w.1.ensures ∙ told_nothing _ _ _ _ _ _ (sym c.asks_table.ensures ∙ w.left) ] in
+    let s = c.loop-k.state in
+    let i = c.index-i.result in
+    let t = c.index-t.result in
+    let w : c.if-asks_table.told ≡ told_of c.event_at-e.result s.count s.txns i t (here_at s i t) =
+    elim c.if-asks_table.branch [
+      then-asks_table w ↦ w.told-is ∙ w.consulted-told.ensures
+    | else-asks_table w ↦ w.told-is ∙ w.untold-told.ensures ∙ told_nothing _ _ _ _ _ _ (sym c.asks_table.ensures ∙ w.if-asks_table.false)
+    ] in
     omega (
       arith,
       c.loop-k-test.true,
@@ -124,33 +137,44 @@ loop-k-smaller c =
 
 pub loop-k-preserved : goal.loop-k-preserved
 loop-k-preserved c =
-    let k : c.loop-k.k < length c.args.events.now / 7 = c.loop-k-test.true in
-    let here = with_here c.loop-k.state c.index-i.result c.index-t.result c.turn_of-d.result.here in
-    let w =
-    elim c.if-asks_table.branch [ then-asks_table w ↦ w.3 ∙ w.2.ensures | else-asks_table w ↦ w.2 ∙ w.1.ensures ∙ told_nothing _ _ _ _ _ _ (sym c.asks_table.ensures ∙ w.left) ] in
-    let new : c.if-not-is_empty.state ≡ posted c.index-i.result c.turn_of-d.result.message c.turn_of-d.result.about c.turn_of-d.result.readies here =
-    ⊎_elim (λ w. w.4 ∙ all_posted c.index-i.result c.turn_of-d.result.message c.turn_of-d.result.about c.turn_of-d.result.readies here _ w.3.ensures)
-    (λ w.
-    w.1
-    ∙ nothing-posted c.index-i.result c.turn_of-d.result.message c.turn_of-d.result.about c.turn_of-d.result.readies here
-    (sym (c.is_empty.ensures ∙ ap is_empty c.union.ensures) ∙ not-false _ w.left))
-    c.if-not-is_empty.branch in (
+    let a = c.args in
+    let s = c.loop-k.state in
+    let f = c.loop-k.invariant.2.ranged in
+    let e = c.event_at-e.result in
+    let i = c.index-i.result in
+    let t = c.index-t.result in
+    let d = c.turn_of-d.result in
+    let k : c.loop-k.k < length a.events.now / 7 = c.loop-k-test.true in
+    let here = with_here s i t d.here in
+    let w : c.if-asks_table.told ≡ told_of e s.count s.txns i t (here_at s i t) =
+    elim c.if-asks_table.branch [
+      then-asks_table w ↦ w.told-is ∙ w.consulted-told.ensures
+    | else-asks_table w ↦ w.told-is ∙ w.untold-told.ensures ∙ told_nothing _ _ _ _ _ _ (sym c.asks_table.ensures ∙ w.if-asks_table.false)
+    ] in
+    let new : c.if-not-is_empty.state ≡ posted i d.message d.about d.readies here =
+    elim c.if-not-is_empty.branch [
+      then-not-is_empty w ↦ w.state-is ∙ all_posted i d.message d.about d.readies here _ w.posted-qs.ensures
+    | else-not-is_empty w ↦
+        w.state-is
+        ∙ nothing-posted i d.message d.about d.readies here
+        (sym (c.is_empty.ensures ∙ ap is_empty c.union.ensures) ∙ w.if-not-is_empty.false)
+    ] in (
       omega (arith, k),
       omega (
         arith,
         c.loop-k.invariant.1,
-        (turn_few c.loop-k.state c.event_at-e.result c.loop-k.invariant.2.ranged c.index-i.result c.index-t.result c.index-i.ensures c.index-t.ensures _ w c.turn_of-d.result c.turn_of-d.ensures).1,
+        (turn_few s e f i t c.index-i.ensures c.index-t.ensures _ w d c.turn_of-d.ensures).1,
       ),
       subst
           (λ (x : State).
-          Going c.args.s (events_of c.args.events.now) c.args.answers.now (c.loop-k.k + 1) x (c.loop-k.sent + c.turn_of-d.result.sent)
-          (set c.loop-k.answers c.loop-k.k c.turn_of-d.result.answer))
+          Going a.s (events_of a.events.now) a.answers.now (c.loop-k.k + 1) x (c.loop-k.sent + d.sent)
+          (set c.loop-k.answers c.loop-k.k d.answer))
           (sym new)
-          (going_turned c.args.s (events_of c.args.events.now) c.args.answers.now c.loop-k.k c.loop-k.state c.loop-k.sent c.loop-k.answers _
-          (returned c.loop-k.state c.event_at-e.result c.loop-k.invariant.2.ranged c.index-i.result c.index-t.result c.turn_of-d.result) c.loop-k.invariant.2 (events_from c.args.events.now c.loop-k.k k)
+          (going_turned a.s (events_of a.events.now) a.answers.now c.loop-k.k s c.loop-k.sent c.loop-k.answers _
+          (returned s e f i t d) c.loop-k.invariant.2 (events_from a.events.now c.loop-k.k k)
           (omega (arith, k, c.requires.2))
-          (turn_taken c.loop-k.state c.event_at-e.result c.loop-k.invariant.2.ranged c.index-i.result c.index-t.result c.index-i.ensures c.index-t.ensures _ w c.turn_of-d.result c.turn_of-d.ensures
-          ∙ ap (step c.loop-k.state) c.event_at-e.ensures)),
+          (turn_taken s e f i t c.index-i.ensures c.index-t.ensures _ w d c.turn_of-d.ensures
+          ∙ ap (step s) c.event_at-e.ensures)),
     )
 
 pub shape_of-answers : goal.shape_of-answers
@@ -158,7 +182,9 @@ shape_of-answers c = c.loop-k.invariant.2.room
 
 pub returns : goal.returns
 returns c =
+    let l = c.loop-k in
+    let a = c.args in
     let f =
-    finished c.args.s (events_of c.args.events.now) c.args.answers.now c.loop-k.k c.loop-k.state c.loop-k.sent c.loop-k.answers c.loop-k.invariant.2
-    (omega (arith, events-length c.args.events.now, c.loop-k-test.false)) in
+    finished a.s (events_of a.events.now) a.answers.now l.k l.state l.sent l.answers l.invariant.2
+    (omega (arith, events-length a.events.now, c.loop-k-test.false)) in
     (c.ran.ensures ∙ f.0, f.1)

@@ -4,18 +4,16 @@ use Rattle.rules.proofs.Bounds.{few, few_times}
 use Rattle.rules.specs.Turn.{scan_turn}
 use Rattle.rules.proofs.figure.scan_leaves.Goals as goal
 
--- UNCONVERTED overflow-mul-t9
--- mul-t9 : tie.Need-overflow-mul-t9
--- mul-t9 c = omega (arith, few_times _ _ _ _ c.before.count.ensures c.count2.ensures)
+pub overflow_mul-result : goal.overflow_mul-result
+overflow_mul-result c = omega (arith, few_times _ _ _ _ c.count.ensures c.count-2.ensures)
 
--- UNCONVERTED overflow-add-t11
--- add-t11 : tie.Need-overflow-add-t11
--- add-t11 c =
---     omega (
---       arith,
---       few_times _ _ _ _ c.before.before.count.ensures c.before.count2.ensures,
---       few _ _ c.count3.ensures,
---     )
+pub overflow_add-result : goal.overflow_add-result
+overflow_add-result c =
+    omega (
+      arith,
+      few_times _ _ _ _ c.count.ensures c.count-2.ensures,
+      few _ _ c.count-3.ensures,
+    )
 
 pub returns : goal.returns
 unfolding scan_turn

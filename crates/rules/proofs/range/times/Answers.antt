@@ -7,7 +7,7 @@ use Rattle.rules.proofs.range.times.Goals as goal
 times_turned : (t : ℕ) (l : List ℕ) (k m n : ℕ) → k < length l → m ≡ times t (take k l)
     → n ≡ cond (slice_index_or l k 0 == t) 1 0 → m + n ≡ times t (take (k + 1) l)
 unfolding times
-times_turned t l k m n h e q = rw (add-one k, take-suc l k 0 h, times-append, times, add-zero, e, q)
+times_turned t l k m n h e q = rw (add-one k, take-suc l k 0 h, times-append, add-zero, e, q)
 
 pub loop-k-init : goal.loop-k-init
 unfolding times
