@@ -1,12 +1,11 @@
 -- The events that a list of numbers holds, one after the other, and what a run does from each on.
 use Rattle.std.specs.Prelude.{slice_index_or}
-use Prim.Native.Nat.{ℕ, zero, suc, ◌+◌, ◌*◌, ◌/◌, ◌<◌, ◌≤◌}
+use Prim.Native.Nat.{ℕ, zero, suc, ◌+◌, ◌*◌, ◌/◌, ◌<◌}
 use mathlib.Core.Path.{◌≡◌, refl}
 use mathlib.Core.List.{List, [], ◌∷◌}
 use native.Mathlib.Omega.{arith}
 use lib.ListN.{length, drop}
 use Rattle.protocol.specs.Run.{events_of}
-use Rattle.protocol.specs.declared.Event.{Event}
 use Rattle.rules.specs.Events.{event_at}
 
 -- past the first event the numbers are those after the first seven

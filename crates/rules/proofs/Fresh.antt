@@ -7,7 +7,7 @@ use mathlib.Core.List.{List, [], ◌∷◌}
 use native.Mathlib.Omega.{arith}
 use lib.ListN.{length, replicate, take, get_or-eq_default}
 use lib.Seq.{length-take-le}
-use borrow.Author.Tests.{not-true, not-false, leb-true, ltb-true, ltb-false}
+use borrow.Author.Tests.{leb-true, ltb-true, ltb-false}
 use Rattle.laws.specs.Tests.{Test, yes_so, not_so, test, both_right}
 use Rattle.laws.specs.Lists.{length-table, get_or-table}
 use Rattle.protocol.specs.Lists.{each_from, each, table_from, table}

@@ -1,6 +1,6 @@
 -- What owning a state tells of the lists in it: they have the lengths of the arrays.
 use Rattle.std.specs.Prelude.{slice_index_or}
-use mathlib.Core.Path.{◌≡◌, refl, sym, subst, ◌∙◌}
+use mathlib.Core.Path.{◌≡◌, refl, sym, subst}
 use mathlib.Core.List.{List, [], ◌∷◌}
 use Prim.Native.Nat.{ℕ, zero, suc, ◌<◌}
 use native.Mathlib.Nat.{not-suc-le-zero, le_of_suc-le-suc}
@@ -10,7 +10,7 @@ use mir.Val.{Val}
 use denote.Laws.{Is}
 use denote.Shadow.{shadow}
 use denote.Array.{each}
-use borrow.Author.Rules.{length_unmapped, rules}
+use borrow.Author.Rules.{rules}
 use Rattle.protocol.specs.State.{no_row, no_place, no_txn}
 use Rattle.protocol.specs.declared.State.{State}
 use Rattle.protocol.specs.declared.Row.{Row}

@@ -19,13 +19,12 @@ pub entered-s-requires : goal.entered-s-requires
 entered-s-requires c = omega (arith, (taken_fits (length c.args.table.now)).1, c.taken-m.ensures)
 
 pub loop-i-preserved : goal.loop-i-preserved
-loop-i-preserved c =
-    (
-      omega (arith, c.taken-m.ensures),
-      c.entered-s.ensures
-          ∙ ap (λ (s : State). entered_at s c.loop-i.i (entry_at c.args.table.now c.loop-i.i)) c.loop-i.invariant.1
-          ∙ copied_next c.args.table.now c.loop-i.i (omega (arith, (taken_fits (length c.args.table.now)).1, c.taken-m.ensures)),
-    )
+loop-i-preserved c = (
+  omega (arith, c.taken-m.ensures),
+  c.entered-s.ensures
+      ∙ ap (λ (s : State). entered_at s c.loop-i.i (entry_at c.args.table.now c.loop-i.i)) c.loop-i.invariant.1
+      ∙ copied_next c.args.table.now c.loop-i.i (omega (arith, (taken_fits (length c.args.table.now)).1, c.taken-m.ensures)),
+)
 
 pub returns : goal.returns
 returns c =

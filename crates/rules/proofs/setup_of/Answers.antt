@@ -1,4 +1,4 @@
-use Rattle.std.proofs.Common.{sym, ap, ap₂, ◌∙◌, ◌-◌, arith, take, get_or-take}
+use Rattle.std.proofs.Common.{sym, ap, ap₂, ◌∙◌, arith, take, get_or-take}
 use Rattle.protocol.specs.State.{with_txn}
 use Rattle.protocol.specs.declared.Entry.{Entry}
 use Rattle.protocol.specs.declared.State.{State}
@@ -12,15 +12,14 @@ loop-i-init c = (omega arith, (taken_fits _).1, c.blank-s.ensures ∙ copied_non
 
 pub loop-i-preserved : goal.loop-i-preserved
 unfolding entered_at
-loop-i-preserved c =
-    (
-      omega arith,
-      c.loop-i.invariant.1,
-      ap (with_txn c.loop-i.s c.loop-i.i) c.with_entry-x.ensures
-          ∙ ap₂ (λ (s : State) (e : Entry). entered_at s c.loop-i.i e) c.loop-i.invariant.2
-          (sym (get_or-take c.args.n c.args.entries c.loop-i.i _ (omega (arith, (taken_fits c.args.n).0))))
-          ∙ copied_next (take c.args.n c.args.entries) c.loop-i.i (omega arith),
-    )
+loop-i-preserved c = (
+  omega arith,
+  c.loop-i.invariant.1,
+  ap (with_txn c.loop-i.s c.loop-i.i) c.with_entry-x.ensures
+      ∙ ap₂ (λ (s : State) (e : Entry). entered_at s c.loop-i.i e) c.loop-i.invariant.2
+      (sym (get_or-take c.args.n c.args.entries c.loop-i.i _ (omega (arith, (taken_fits c.args.n).0))))
+      ∙ copied_next (take c.args.n c.args.entries) c.loop-i.i (omega arith),
+)
 
 pub returns : goal.returns
 returns c =

@@ -1,4 +1,4 @@
-use Rattle.std.proofs.Common.{◌-◌, refl, sym, ◌∙◌, ⊎_elim, arith, rules, ne_eqb}
+use Rattle.std.proofs.Common.{refl, sym, ◌∙◌, arith, rules, ne_eqb}
 use Rattle.protocol.specs.Channel.{homed_at}
 use Rattle.protocol.specs.State.{txn_in}
 use Rattle.rules.proofs.Loops.{ended}
@@ -15,17 +15,17 @@ loop-t-preserved c =
       search rules,
       search rules,
       elim c.if-has.branch [
-        then-has+then-j-lt-SITES w ↦
-          w.qs-is
-          ∙ readied_turned c.args.i c.args.xs c.args.ts c.loop-t.t c.loop-t.qs c.args.ps c.loop-t.invariant.2 _ refl
-          (omega (arith, w.if-j-lt-SITES.true, c.loop-t.invariant.1)) c.loop-t-test.true (h ∙ w.if-has.true) _ w.readied.ensures
-      | then-has+else-j-lt-SITES w ↦
-          w.qs-is
-          ∙ readied_passed c.args.i c.args.xs c.args.ts c.loop-t.t c.loop-t.qs c.args.ps c.loop-t.invariant.2
-          (λ j g. rw (h ∙ w.if-has.true, ne_eqb (txn_in c.args.xs c.loop-t.t).home j (λ z. omega (arith, w.if-j-lt-SITES.false, g, z, c.loop-t.invariant.1))))
-      | else-has w ↦
-          w.qs-is
-          ∙ readied_passed c.args.i c.args.xs c.args.ts c.loop-t.t c.loop-t.qs c.args.ps c.loop-t.invariant.2 (λ j g. rw (h ∙ w.if-has.false))
+        | then-has+then-j-lt-SITES w ↦
+            w.qs-is
+            ∙ readied_turned c.args.i c.args.xs c.args.ts c.loop-t.t c.loop-t.qs c.args.ps c.loop-t.invariant.2 _ refl
+            (omega (arith, w.if-j-lt-SITES.true, c.loop-t.invariant.1)) c.loop-t-test.true (h ∙ w.if-has.true) _ w.readied.ensures
+        | then-has+else-j-lt-SITES w ↦
+            w.qs-is
+            ∙ readied_passed c.args.i c.args.xs c.args.ts c.loop-t.t c.loop-t.qs c.args.ps c.loop-t.invariant.2
+            (λ j g. rw (h ∙ w.if-has.true, ne_eqb (txn_in c.args.xs c.loop-t.t).home j (λ z. omega (arith, w.if-j-lt-SITES.false, g, z, c.loop-t.invariant.1))))
+        | else-has w ↦
+            w.qs-is
+            ∙ readied_passed c.args.i c.args.xs c.args.ts c.loop-t.t c.loop-t.qs c.args.ps c.loop-t.invariant.2 (λ j g. rw (h ∙ w.if-has.false))
       ],
     )
 

@@ -1,4 +1,4 @@
-use Rattle.std.proofs.Common.{◌∙◌, ◌-◌, arith}
+use Rattle.std.proofs.Common.{◌∙◌, arith}
 use Rattle.protocol.specs.State.{no_row}
 use Rattle.rules.proofs.Fresh.{filled}
 use Rattle.rules.proofs.Loops.{each_begun, each_turned, each-ended}

@@ -1,4 +1,4 @@
-use Rattle.std.proofs.Common.{◌+◌, ◌-◌, ◌/◌, ◌<◌, ◌≡◌, sym, ap, ◌∙◌, subst, arith, ⊎_elim, rules, length, set}
+use Rattle.std.proofs.Common.{◌+◌, ◌/◌, ◌<◌, ◌≡◌, sym, ap, ◌∙◌, subst, arith, rules, length, set}
 use Rattle.laws.specs.Runs.{events-length}
 use Rattle.protocol.specs.Answer.{step}
 use Rattle.protocol.specs.Run.{events_of}
@@ -69,8 +69,8 @@ overflow_cast-answers c =
     let t = c.index-t.result in
     let w : c.if-asks_table.told ≡ told_of c.event_at-e.result s.count s.txns i t (here_at s i t) =
     elim c.if-asks_table.branch [
-      then-asks_table w ↦ w.told-is ∙ w.consulted-told.ensures
-    | else-asks_table w ↦ w.told-is ∙ w.untold-told.ensures ∙ told_nothing _ _ _ _ _ _ (sym c.asks_table.ensures ∙ w.if-asks_table.false)
+      | then-asks_table w ↦ w.told-is ∙ w.consulted-told.ensures
+      | else-asks_table w ↦ w.told-is ∙ w.untold-told.ensures ∙ told_nothing _ _ _ _ _ _ (sym c.asks_table.ensures ∙ w.if-asks_table.false)
     ] in
     omega (
       arith,
@@ -88,8 +88,8 @@ overflow_add-sent c =
     let t = c.index-t.result in
     let w : c.if-asks_table.told ≡ told_of c.event_at-e.result s.count s.txns i t (here_at s i t) =
     elim c.if-asks_table.branch [
-      then-asks_table w ↦ w.told-is ∙ w.consulted-told.ensures
-    | else-asks_table w ↦ w.told-is ∙ w.untold-told.ensures ∙ told_nothing _ _ _ _ _ _ (sym c.asks_table.ensures ∙ w.if-asks_table.false)
+      | then-asks_table w ↦ w.told-is ∙ w.consulted-told.ensures
+      | else-asks_table w ↦ w.told-is ∙ w.untold-told.ensures ∙ told_nothing _ _ _ _ _ _ (sym c.asks_table.ensures ∙ w.if-asks_table.false)
     ] in
     omega (
       arith,
@@ -148,16 +148,16 @@ loop-k-preserved c =
     let here = with_here s i t d.here in
     let w : c.if-asks_table.told ≡ told_of e s.count s.txns i t (here_at s i t) =
     elim c.if-asks_table.branch [
-      then-asks_table w ↦ w.told-is ∙ w.consulted-told.ensures
-    | else-asks_table w ↦ w.told-is ∙ w.untold-told.ensures ∙ told_nothing _ _ _ _ _ _ (sym c.asks_table.ensures ∙ w.if-asks_table.false)
+      | then-asks_table w ↦ w.told-is ∙ w.consulted-told.ensures
+      | else-asks_table w ↦ w.told-is ∙ w.untold-told.ensures ∙ told_nothing _ _ _ _ _ _ (sym c.asks_table.ensures ∙ w.if-asks_table.false)
     ] in
     let new : c.if-not-is_empty.state ≡ posted i d.message d.about d.readies here =
     elim c.if-not-is_empty.branch [
-      then-not-is_empty w ↦ w.state-is ∙ all_posted i d.message d.about d.readies here _ w.posted-qs.ensures
-    | else-not-is_empty w ↦
-        w.state-is
-        ∙ nothing-posted i d.message d.about d.readies here
-        (sym (c.is_empty.ensures ∙ ap is_empty c.union.ensures) ∙ w.if-not-is_empty.false)
+      | then-not-is_empty w ↦ w.state-is ∙ all_posted i d.message d.about d.readies here _ w.posted-qs.ensures
+      | else-not-is_empty w ↦
+          w.state-is
+          ∙ nothing-posted i d.message d.about d.readies here
+          (sym (c.is_empty.ensures ∙ ap is_empty c.union.ensures) ∙ w.if-not-is_empty.false)
     ] in (
       omega (arith, k),
       omega (

@@ -1,4 +1,4 @@
-use Rattle.std.proofs.Common.{◌-◌, arith}
+use Rattle.std.proofs.Common.{arith}
 use Rattle.protocol.specs.Database.{clash}
 use Rattle.rules.proofs.Loops.{some_begun, some_turned, ended}
 use Rattle.rules.proofs.database.clash.Goals as goal

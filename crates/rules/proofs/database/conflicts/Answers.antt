@@ -1,4 +1,4 @@
-use Rattle.std.proofs.Common.{◌==◌, ◌≡◌, refl, sym, ◌∙◌, Bool, true, false, not, ◌&&◌, ⊎_elim, ℕ, ◌-◌, arith}
+use Rattle.std.proofs.Common.{◌==◌, ◌≡◌, refl, sym, ◌∙◌, Bool, true, false, not, ◌&&◌, ℕ, arith}
 use Rattle.laws.specs.Held.{conflict_executes}
 use Rattle.laws.specs.Tests.{Test, yes_so, not_so, test}
 use Rattle.protocol.specs.Database.{executes, conflicts_with, conflicts}
@@ -28,15 +28,15 @@ loop-u-preserved c =
     let b = sym c.executes.ensures in (
       omega arith,
       elim c.if-executes.branch [
-        then-executes+then-u-t w ↦
-          those_turned _ _ _ _ (omega arith) c.loop-u.invariant.1 (rw (← c.status_in-v.ensures, ← w.conflicts_with.ensures) w.if-u-t.true)
-          (w.them-is ∙ w.with-them.ensures)
-      | then-executes+else-u-t w ↦
-          w.them-is ∙ those_passed _ _ _ c.loop-u.invariant.1 (rw (← c.status_in-v.ensures, ← w.conflicts_with.ensures) w.if-u-t.false)
-      | else-executes w ↦
-          w.them-is
-          ∙ those_passed _ _ _ c.loop-u.invariant.1
-          (rw (← c.status_in-v.ensures) (apart (not (c.loop-u.u == c.args.t)) (txn_in c.args.xs c.args.t) (txn_in c.args.xs c.loop-u.u) c.args.i _ (b ∙ w.if-executes.false)))
+        | then-executes+then-u-t w ↦
+            those_turned _ _ _ _ (omega arith) c.loop-u.invariant.1 (rw (← c.status_in-v.ensures, ← w.conflicts_with.ensures) w.if-u-t.true)
+            (w.them-is ∙ w.with-them.ensures)
+        | then-executes+else-u-t w ↦
+            w.them-is ∙ those_passed _ _ _ c.loop-u.invariant.1 (rw (← c.status_in-v.ensures, ← w.conflicts_with.ensures) w.if-u-t.false)
+        | else-executes w ↦
+            w.them-is
+            ∙ those_passed _ _ _ c.loop-u.invariant.1
+            (rw (← c.status_in-v.ensures) (apart (not (c.loop-u.u == c.args.t)) (txn_in c.args.xs c.args.t) (txn_in c.args.xs c.loop-u.u) c.args.i _ (b ∙ w.if-executes.false)))
       ],
     )
 

@@ -1,4 +1,4 @@
-use Rattle.std.proofs.Common.{sym, ◌∙◌, ◌-◌, arith, rules}
+use Rattle.std.proofs.Common.{sym, ◌∙◌, arith, rules}
 use Rattle.protocol.specs.Database.{noted}
 use Rattle.rules.proofs.Loops.{each_begun, each_turned, each_passed, each-ended}
 use Rattle.rules.proofs.database.noted.Goals.{else-has, then-has}

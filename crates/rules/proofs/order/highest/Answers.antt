@@ -1,4 +1,4 @@
-use Rattle.std.proofs.Common.{◌==◌, ℕ, ◌+◌, ◌-◌, Bool, true, false, cond, ◌&&◌, ◌||◌, List, ◌≡◌, refl, sym, ◌∙◌, ⊎_elim, add-one, arith, rules}
+use Rattle.std.proofs.Common.{◌==◌, ℕ, ◌+◌, Bool, true, false, cond, ◌&&◌, ◌||◌, List, ◌≡◌, refl, sym, ◌∙◌, add-one, arith, rules}
 use Rattle.protocol.specs.Order.{outranks, higher_of, highest_below}
 use Rattle.protocol.specs.State.{txn_in}
 use Rattle.protocol.specs.declared.Txn.{Txn}
@@ -29,22 +29,21 @@ unfolding highest_below
 loop-u-init c = (search rules, search rules, refl)
 
 pub loop-u-preserved : goal.loop-u-preserved
-loop-u-preserved c =
-    (
-      search rules,
-      elim c.if-has.branch [
-        then-has+then-best-outranks w ↦ omega (arith, w.best-is)
-      | then-has+else-best-outranks w ↦ omega (arith, w.best-is)
-      | else-has w ↦ omega (arith, w.best-is)
-      ],
-      elim c.if-has.branch [
-        then-has+then-best-outranks w ↦
-          w.best-is ∙ rw (turned _ _ _ _ _ _ _ c.loop-u.invariant.2 c.has.ensures w.rival-k.ensures.1 w.outranks.ensures, w.if-has.true, w.if-best-outranks.true)
-      | then-has+else-best-outranks w ↦
-          w.best-is ∙ rw (turned _ _ _ _ _ _ _ c.loop-u.invariant.2 c.has.ensures w.rival-k.ensures.1 w.outranks.ensures, w.if-has.true, w.if-best-outranks.false)
-      | else-has w ↦ w.best-is ∙ passed _ _ _ _ c.loop-u.invariant.2 (sym c.has.ensures ∙ w.if-has.false)
-      ],
-    )
+loop-u-preserved c = (
+  search rules,
+  elim c.if-has.branch [
+    | then-has+then-best-outranks w ↦ omega (arith, w.best-is)
+    | then-has+else-best-outranks w ↦ omega (arith, w.best-is)
+    | else-has w ↦ omega (arith, w.best-is)
+  ],
+  elim c.if-has.branch [
+    | then-has+then-best-outranks w ↦
+        w.best-is ∙ rw (turned _ _ _ _ _ _ _ c.loop-u.invariant.2 c.has.ensures w.rival-k.ensures.1 w.outranks.ensures, w.if-has.true, w.if-best-outranks.true)
+    | then-has+else-best-outranks w ↦
+        w.best-is ∙ rw (turned _ _ _ _ _ _ _ c.loop-u.invariant.2 c.has.ensures w.rival-k.ensures.1 w.outranks.ensures, w.if-has.true, w.if-best-outranks.false)
+    | else-has w ↦ w.best-is ∙ passed _ _ _ _ c.loop-u.invariant.2 (sym c.has.ensures ∙ w.if-has.false)
+  ],
+)
 
 pub returns : goal.returns
 returns c = let n : c.loop-u.u ≡ 32 = omega arith in rw n at c.loop-u.invariant.2

@@ -1,4 +1,4 @@
-use Rattle.std.proofs.Common.{slice_index_or, ◌≡◌, refl, sym, ap, ◌∙◌, Bool, ◌&&◌, List, [], ◌∷◌, ◌++◌, ℕ, ◌+◌, ◌<◌, ◌-◌, add-one, arith, length, take, take-suc}
+use Rattle.std.proofs.Common.{slice_index_or, ◌≡◌, refl, sym, ap, ◌∙◌, Bool, ◌&&◌, List, [], ◌∷◌, ◌++◌, ℕ, ◌+◌, ◌<◌, add-one, arith, length, take, take-suc}
 use Rattle.protocol.specs.Lists.{all_of}
 use mathlib.Core.Bool.{and-true, and_assoc}
 use Rattle.rules.proofs.range.entries_fine.Goals as goal
@@ -13,7 +13,6 @@ module _ (p : ℕ → Bool) where
   all_of_turned : (l : List ℕ) (k : ℕ) (b c : Bool) → b ≡ all_of p (take k l) → c ≡ p (slice_index_or l k 0) → k < length l
       → (b && c) ≡ all_of p (take (k + 1) l)
   all_of_turned l k b c e q h = rw (add-one k, take-suc l k 0 h, all_of_snoc, e, q)
-
 
 pub loop-k-init : goal.loop-k-init
 unfolding all_of

@@ -1,4 +1,4 @@
-use Rattle.std.proofs.Common.{◌-◌, arith}
+use Rattle.std.proofs.Common.{arith}
 use Rattle.rules.proofs.Loops.{all_begun, all_turned, all_ended}
 use Rattle.rules.proofs.range.logged_once.Goals as goal
 

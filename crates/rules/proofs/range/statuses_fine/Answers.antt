@@ -1,4 +1,4 @@
-use Rattle.std.proofs.Common.{refl, ◌-◌, arith}
+use Rattle.std.proofs.Common.{refl, arith}
 use Rattle.protocol.specs.Range.{statuses_fine}
 use Rattle.rules.proofs.Loops.{all_begun, all_turned, all_ended}
 use Rattle.rules.proofs.range.statuses_fine.Goals as goal

@@ -1,4 +1,4 @@
-use Rattle.std.proofs.Common.{◌==◌, slice_index_or, ◌≡◌, refl, cond, List, ℕ, ◌+◌, ◌<◌, ◌-◌, add-zero, add-one, arith, length, take, take-suc}
+use Rattle.std.proofs.Common.{◌==◌, slice_index_or, ◌≡◌, refl, cond, List, ℕ, ◌+◌, ◌<◌, add-zero, add-one, arith, length, take, take-suc}
 use Rattle.laws.specs.Lists.{times-append}
 use Rattle.protocol.specs.Lists.{times}
 use Rattle.rules.proofs.range.times.Goals as goal

@@ -1,7 +1,7 @@
 -- An empty rest is left as it is; else the highest is taken.
 use Rattle.std.proofs.Common.{ℕ, ◌^◌, ◌<◌, ◌≡◌, Bool, false, List, sym, ◌∙◌, arith, eqb-true}
 use Rattle.std.proofs.lemmas.Bool.{eqb-false}
-use Rattle.sets.specs.Set.{is_empty, size}
+use Rattle.sets.specs.Set.{is_empty}
 use Rattle.protocol.specs.Order.{highest}
 use Rattle.protocol.specs.Scan.{scan_one}
 use Rattle.protocol.specs.declared.Scan.{Scan}

@@ -1,4 +1,4 @@
-use Rattle.std.proofs.Common.{◌-◌, sym, ◌∙◌, arith}
+use Rattle.std.proofs.Common.{sym, ◌∙◌, arith}
 use Rattle.protocol.specs.Scan.{asked}
 use Rattle.rules.proofs.Loops.{those-none, those_begun, those_turned, those_passed, ended}
 use Rattle.sets.specs.Laws.{empty_none}
@@ -16,11 +16,10 @@ loop-u-init c = (omega arith, those_begun _)
 
 pub loop-u-preserved : goal.loop-u-preserved
 unfolding asked
-loop-u-preserved c =
-    (
-      omega arith,
-      elim c.if-has-status_in.branch [ then-has-status_in w ↦ w.found-is ∙ those_turned _ _ _ _ (omega arith) c.loop-u.invariant.1 (rw (← c.status_in.ensures, ← c.has.ensures) w.if-has-status_in.true) w.with-found.ensures | else-has-status_in w ↦ w.found-is ∙ those_passed _ _ _ c.loop-u.invariant.1 (rw (← c.status_in.ensures, ← c.has.ensures) w.if-has-status_in.false) ],
-    )
+loop-u-preserved c = (
+  omega arith,
+  elim c.if-has-status_in.branch [ then-has-status_in w ↦ w.found-is ∙ those_turned _ _ _ _ (omega arith) c.loop-u.invariant.1 (rw (← c.status_in.ensures, ← c.has.ensures) w.if-has-status_in.true) w.with-found.ensures | else-has-status_in w ↦ w.found-is ∙ those_passed _ _ _ c.loop-u.invariant.1 (rw (← c.status_in.ensures, ← c.has.ensures) w.if-has-status_in.false) ],
+)
 
 pub returns : goal.returns
 returns c =

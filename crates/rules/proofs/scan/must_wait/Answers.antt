@@ -1,4 +1,4 @@
-use Rattle.std.proofs.Common.{◌-◌, arith}
+use Rattle.std.proofs.Common.{arith}
 use Rattle.protocol.specs.Scan.{must_wait}
 use Rattle.rules.proofs.Loops.{some_begun, some_turned, ended}
 use Rattle.rules.proofs.scan.must_wait.Goals as goal

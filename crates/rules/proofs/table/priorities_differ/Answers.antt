@@ -1,4 +1,4 @@
-use Rattle.std.proofs.Common.{◌-◌, arith}
+use Rattle.std.proofs.Common.{arith}
 use Rattle.protocol.specs.Setup.{priorities_differ}
 use Rattle.rules.proofs.Loops.{all_begun, all_turned, all_ended}
 use Rattle.rules.proofs.table.priorities_differ.Goals as goal

@@ -1,0 +1,17 @@
+use Rattle.std.proofs.Common.{◌-◌, refl, arith}
+use Rattle.scenario.proofs.Fronts.{line_begun, begun_more, begun_all}
+use Rattle.scenario.proofs.ahead.seven_at.Goals as goal
+
+pub loop-k-init : goal.loop-k-init
+loop-k-init c = line_begun _ _ _ refl
+
+pub returns-then-f-eq0 : goal.returns-then-f-eq0
+returns-then-f-eq0 c = λ h. absurd (omega arith)
+
+pub loop-k-preserved : goal.loop-k-preserved
+loop-k-preserved c =
+    begun_more c.loop-k.invariant _ (c.number_at-f.ensures (omega arith))
+    (omega arith)
+
+pub returns : goal.returns
+returns c = λ h. begun_all c.loop-k.invariant _ (c.number_at-f-2.ensures h) (omega arith)

@@ -1,0 +1,11 @@
+-- A number is announced, and anything else is a fault, as in the definition.
+use Rattle.scenario.specs.Format.{count_line}
+use Rattle.scenario.proofs.reader.count_line.Goals as goal
+
+pub returns-in-Is : goal.returns-in-Is
+unfolding count_line
+returns-in-Is c = rw (c.in-Is.is, c.after.ensures)
+
+pub returns-in-Not : goal.returns-in-Not
+unfolding count_line
+returns-in-Not c = rw c.in-Not.is c.faulted.ensures

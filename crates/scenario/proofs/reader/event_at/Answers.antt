@@ -1,0 +1,14 @@
+-- A key, seven decimals and a line feed are a line with that event, and any other is read by its parts.
+use Rattle.std.proofs.Common.{sym, ◌∙◌, arith, rules}
+use Rattle.scenario.proofs.Laws.{event_ahead}
+use Rattle.text.specs.Written.{bytes}
+use Rattle.scenario.proofs.reader.event_at.Goals as goal
+
+-- UNCONVERTED slice-aggregate-starts
+-- slice-aggregate-starts : tie.Need-slice-aggregate-starts
+-- slice-aggregate-starts c = search rules
+
+pub returns-then-l-ne0 : goal.returns-then-l-ne0
+unfolding bytes
+returns-then-l-ne0 c =
+    event_ahead _ _ _ _ (sym c.starts.ensures ∙ c.if-starts.true) (c.seven_at-l.ensures (omega arith))
