@@ -1,14 +1,10 @@
 -- What it tells that a state is held: the log of a site has 32 entries, so the report of a run has its room.
 use Rattle.std.specs.Prelude.{slice_index_or}
-use Rattle.std.proofs.Common.{◌≡◌, ℕ, zero, suc, ◌+◌, ◌<◌, ◌≤◌, List, [], ◌∷◌, map, length, sym, ◌∙◌, arith, length-take}
-use lib.ListN.{length-map}
+use Rattle.std.proofs.Common.{◌≡◌, ℕ, zero, suc, ◌+◌, ◌<◌, ◌≤◌, List, [], ◌∷◌, length, arith, rules, length-take}
 use mir.Val.{Val}
 use denote.Laws.{Is}
 use denote.Shadow.{shadow}
 use denote.Array.{each}
-use denote.Struct.Declared as Declared
-use denote.Struct.Struct.{Struct}
-use borrow.Author.Rules.{length_unmapped}
 use Rattle.protocol.specs.State.{max_sites, max_txns, max_events, no_place, place_at, log_of}
 use Rattle.protocol.specs.declared.State.{State}
 use Rattle.protocol.specs.declared.Place.{Place}
@@ -18,22 +14,23 @@ use Rattle.scenario.specs.Room.{report_length, report_room_lem}
 use Rattle.protocol.specs.contracts.State as state
 use Rattle.protocol.specs.contracts.Place as place
 
--- each of the places has a log of 32 entries
-entries : (ps : List Place) (us : List Val) (i : ℕ)
-    → shadow
-    (each (place.the_field).row.Denot (Struct (Declared.shape place.the_type)).own_val (map (place.the_type).to ps) us)
-    → i < length ps → length (slice_index_or ps i no_place).log.entries ≡ 32
+-- the log of a place has 32 entries
+entries_of : (p : Place) (vs : List Val) → Is place.the_row p vs → length p.log.entries ≡ 32
+entries_of p vs g = search rules
+
+-- and so that of each of the places
+entries : (ps : List Place) (us : List Val) (i : ℕ) → shadow (each Place (place.the_row).own_val ps us) → i < length ps
+    → length (slice_index_or ps i no_place).log.entries ≡ 32
 entries [] us i h l = absurd (omega arith)
 entries (p ∷ ps) [] i h l = absurd h
-entries (p ∷ ps) (u ∷ us) zero h l =
-    length_unmapped _ p.log.entries 32 h.0.1.1.1.1.0.1.1.1.0.1.0.1
+entries (p ∷ ps) (u ∷ us) zero h l = entries_of p (u ∷ []) h.0
 entries (p ∷ ps) (u ∷ us) (suc i) h l = entries ps us i h.1 (omega arith)
 
 -- so what its log holds is at most 32 numbers
 log_fits : (s : State) (vs : List Val) → Is state.the_row s vs → (i : ℕ) → i < 8
     → length (log_of (place_at s i)) ≤ 32
 log_fits s vs g i h =
-    let n : length s.places ≡ 8 = sym (length-map s.places (place.the_type).to) ∙ g.1.1.1.1.1.0.1.0.1 in
+    let n : length s.places ≡ 8 = g.1.1.1.1.1.0.1.0.1 in
     omega (
       arith,
       length-take (place_at s i).log.length (place_at s i).log.entries,

@@ -11,16 +11,17 @@ returns-then-out-n c = short _ _ _ _ c.put_report-n.ensures c.args.out.now c.if-
 pub slice_bounds-space-end : goal.slice_bounds-space-end
 slice_bounds-space-end c =
     let put_report = c.put_report-n in
-    omega (arith, put_report.ensures.place, put_report.auto.0, report_fits c.args.text.now)
+    omega (arith, put_report.ensures.place, put_report.auto.out, report_fits c.args.text.now)
 
 pub slice_bounds-put_bytes-end : goal.slice_bounds-put_bytes-end
 slice_bounds-put_bytes-end c =
-    sym (length-take-le _ c.put_report-n.new.0 (array-share-prefix-space c))
+    let put_report = c.put_report-n in
+    sym (length-take-le _ put_report.new.out (omega (arith, put_report.ensures.place, put_report.auto.out, report_fits c.args.text.now)))
 
 pub put_bytes-requires : goal.put_bytes-requires
 put_bytes-requires c =
     let put_report = c.put_report-n in
-    omega (arith, length-take put_report.result put_report.new.0, c.if-out-n.false)
+    omega (arith, length-take put_report.result put_report.new.out, c.if-out-n.false)
 
 pub returns : goal.returns
 returns c =

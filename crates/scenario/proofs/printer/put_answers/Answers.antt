@@ -7,10 +7,6 @@ pub loop-i-init : goal.loop-i-init
 loop-i-init c =
     (omega arith, rows_begin answer_rows c.args.out.now c.args.at (omega arith))
 
--- UNCONVERTED slice-aggregate-put-line
--- slice-aggregate-put-line : tie.Need-slice-aggregate-put-line invariant-loop decreases-loop
--- slice-aggregate-put-line c = refl
-
 pub overflow_cast-l : goal.overflow_cast-l
 overflow_cast-l c = omega (arith, c.shared_slice_known-in-loop-i-1.given c.loop-i.i)
 

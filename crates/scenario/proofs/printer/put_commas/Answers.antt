@@ -20,7 +20,7 @@ put_others-requires c =
       commas_length c.args.l.now if1.false,
       c.requires,
       put_number.ensures.place,
-      put_number.auto.0,
+      put_number.auto.out,
     )
 
 pub returns-then-l-eq0 : goal.returns-then-l-eq0

@@ -11,41 +11,41 @@ put_bytes-a-requires c =
 
 pub put_number-b-requires : goal.put_number-b-requires
 put_number-b-requires c =
-    let put-bytes = c.put_bytes-a in
+    let put_bytes = c.put_bytes-a in
     omega (
       arith,
       line_length c.args.key.now c.args.n,
       c.requires,
-      put-bytes.ensures.place,
-      put-bytes.auto.0,
+      put_bytes.ensures.place,
+      put_bytes.auto.out,
     )
 
 pub bounds-out-b : goal.bounds-out-b
 bounds-out-b c =
-    let put-bytes = c.put_bytes-a in
+    let put_bytes = c.put_bytes-a in
     let put_number = c.put_number-b in
     omega (
       arith,
       line_length c.args.key.now c.args.n,
       c.requires,
-      put-bytes.ensures.place,
-      put-bytes.auto.0,
+      put_bytes.ensures.place,
+      put_bytes.auto.out,
       put_number.ensures.place,
-      put_number.auto.0,
+      put_number.auto.out,
     )
 
 pub overflow_add-result : goal.overflow_add-result
-overflow_add-result c = omega (arith, slice-write-out c)
+overflow_add-result c = omega (arith, bounds-out-b c)
 
 pub shape_of-out : goal.shape_of-out
 shape_of-out c =
     let put_number = c.put_number-b in
-    let put-bytes = c.put_bytes-a in
-    length-set put_number.new.0 put_number.result 10 ∙ put_number.auto.0 ∙ put-bytes.auto.0
+    let put_bytes = c.put_bytes-a in
+    length-set put_number.new.out put_number.result 10 ∙ put_number.auto.out ∙ put_bytes.auto.out
 
 pub returns : goal.returns
 unfolding line_of
 returns c =
-    let put-bytes = c.put_bytes-a in
+    let put_bytes = c.put_bytes-a in
     let put_number = c.put_number-b in
-    then put-bytes.ensures (then put_number.ensures (one _ _ _ (omega arith)))
+    then put_bytes.ensures (then put_number.ensures (one _ _ _ (omega arith)))

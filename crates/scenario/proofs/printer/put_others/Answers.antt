@@ -18,7 +18,15 @@ bounds-out-e c =
     )
 
 pub overflow_add-e : goal.overflow_add-e
-overflow_add-e c = omega (arith, slice-write-out c, put-length c.loop-i.invariant.1)
+overflow_add-e c =
+    let loop = c.loop-i in
+    omega (
+      arith,
+      rows_room other_rows c.args.l.now loop.i (omega arith),
+      c.requires,
+      loop.invariant.1.place,
+      put-length loop.invariant.1,
+    )
 
 pub overflow_cast-l : goal.overflow_cast-l
 overflow_cast-l c = omega (arith, c.shared_slice_known-in-loop-i-1.given c.loop-i.i)

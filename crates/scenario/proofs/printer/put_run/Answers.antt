@@ -10,7 +10,7 @@ pub put_answers-a-requires : goal.put_answers-a-requires
 put_answers-a-requires c =
     omega (
       arith,
-      run_room c.args.l.now c.args.s c.args.sent _ c.well-formed.1.1.1.0
+      run_room c.args.l.now c.args.s c.args.sent _ c.well_formed.1.1.1.0
           c.requires.0 c.requires.1 c.requires.2,
       c.requires.3,
     )
@@ -21,17 +21,13 @@ put_sites-b-requires c =
       c.requires.1,
       omega (
         arith,
-        run_room c.args.l.now c.args.s c.args.sent _ c.well-formed.1.1.1.0
+        run_room c.args.l.now c.args.s c.args.sent _ c.well_formed.1.1.1.0
             c.requires.0 c.requires.1 c.requires.2,
         c.requires.3,
         put_answers.ensures.place,
-        put_answers.auto.0,
+        put_answers.auto.out,
       ),
     )
-
--- UNCONVERTED slice-aggregate-put-line
--- slice-aggregate-put-line : tie.Need-slice-aggregate-put-line
--- slice-aggregate-put-line c = search rules
 
 pub put_line-requires : goal.put_line-requires
 unfolding bytes
@@ -40,13 +36,13 @@ put_line-requires c =
     let put_sites = c.put_sites-b in
     omega (
       arith,
-      run_room c.args.l.now c.args.s c.args.sent _ c.well-formed.1.1.1.0
+      run_room c.args.l.now c.args.s c.args.sent _ c.well_formed.1.1.1.0
           c.requires.0 c.requires.1 c.requires.2,
       c.requires.3,
       put_answers.ensures.place,
-      put_answers.auto.0,
+      put_answers.auto.out,
       put_sites.ensures.place,
-      put_sites.auto.0,
+      put_sites.auto.out,
     )
 
 pub returns : goal.returns

@@ -6,18 +6,10 @@ use Rattle.scenario.specs.Room.{site_length}
 use Rattle.text.specs.Written.{bytes}
 use Rattle.scenario.proofs.printer.put_site.Goals as goal
 
--- UNCONVERTED slice-aggregate-put-list
--- slice-aggregate-put-list : tie.Need-slice-aggregate-put-list
--- slice-aggregate-put-list c = search rules
-
 pub put_list-a-requires : goal.put_list-a-requires
 unfolding bytes
 put_list-a-requires c =
     omega (arith, site_length c.args.count c.args.row c.args.place, c.requires)
-
--- UNCONVERTED slice-aggregate-put-list-2
--- slice-aggregate-put-list-2 : tie.Need-slice-aggregate-put-list-2
--- slice-aggregate-put-list-2 c = search rules
 
 pub put_list-requires : goal.put_list-requires
 unfolding bytes
@@ -28,7 +20,7 @@ put_list-requires c =
       site_length c.args.count c.args.row c.args.place,
       c.requires,
       put_list.ensures.place,
-      put_list.auto.0,
+      put_list.auto.out,
     )
 
 pub returns : goal.returns

@@ -4,10 +4,6 @@ use Rattle.scenario.proofs.Laws.{event_ahead}
 use Rattle.text.specs.Written.{bytes}
 use Rattle.scenario.proofs.reader.event_at.Goals as goal
 
--- UNCONVERTED slice-aggregate-starts
--- slice-aggregate-starts : tie.Need-slice-aggregate-starts
--- slice-aggregate-starts c = search rules
-
 pub returns-then-l-ne0 : goal.returns-then-l-ne0
 unfolding bytes
 returns-then-l-ne0 c =

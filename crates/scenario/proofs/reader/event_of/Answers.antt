@@ -6,10 +6,6 @@ use Rattle.text.specs.Laws.{starts_long}
 use Rattle.text.specs.Written.{bytes}
 use Rattle.scenario.proofs.reader.event_of.Goals as goal
 
--- UNCONVERTED slice-aggregate-starts
--- slice-aggregate-starts : tie.Need-slice-aggregate-starts
--- slice-aggregate-starts c = search rules
-
 pub slice_bounds-seven-count : goal.slice_bounds-seven-count
 unfolding bytes
 slice_bounds-seven-count c = starts_long (bytes "event=") _ (sym c.starts.ensures ∙ c.if-starts.true)

@@ -1,7 +1,6 @@
 -- The seven numbers are stored one after the other, and the places of an event that is not below the length are past the end.
-use Rattle.std.proofs.Common.{◌*◌, sym, arith}
+use Rattle.std.proofs.Common.{◌*◌, sym, arith, rules}
 use Rattle.scenario.proofs.Laws.{seven_sets, sets_out}
-use borrow.Author.Rules.{length_unmapped}
 use Rattle.scenario.proofs.reader.keep_event.Goals as goal
 
 pub returns-then-done-numbers : goal.returns-then-done-numbers
@@ -17,7 +16,7 @@ returns-then-done-numbers c =
       c.put.ensures,
     )
     (seven_sets c.args.f.values c.args.numbers.now (7 * c.args.done)
-    (length_unmapped _ c.args.f.values 7 c.well-formed.1.1.0.1.1.1.0.1.0.1))
+    (search rules))
 
 pub returns-else-done-numbers : goal.returns-else-done-numbers
 returns-else-done-numbers c =

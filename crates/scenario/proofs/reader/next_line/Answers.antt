@@ -7,41 +7,21 @@ use Rattle.text.specs.Line.{before}
 use Rattle.text.specs.Written.{bytes}
 use Rattle.scenario.proofs.reader.next_line.Goals as goal
 
--- UNCONVERTED slice-aggregate-value-of
--- slice-aggregate-value-of : tie.Need-slice-aggregate-value-of
--- slice-aggregate-value-of c = search rules
-
 pub value_of-next-requires : goal.value_of-next-requires
 unfolding before
 value_of-next-requires c = (search rules, refl)
-
--- UNCONVERTED slice-aggregate-value-of-2
--- slice-aggregate-value-of-2 : tie.Need-slice-aggregate-value-of-2
--- slice-aggregate-value-of-2 c = search rules
 
 pub value_of-next-requires-in-Count : goal.value_of-next-requires-in-Count
 unfolding before
 value_of-next-requires-in-Count c = (search rules, refl)
 
--- UNCONVERTED slice-aggregate-value-of-3
--- slice-aggregate-value-of-3 : tie.Need-slice-aggregate-value-of-3
--- slice-aggregate-value-of-3 c = search rules
-
 pub value_of-next-requires-in-Home : goal.value_of-next-requires-in-Home
 unfolding before
 value_of-next-requires-in-Home c = (search rules, refl)
 
--- UNCONVERTED slice-aggregate-value-of-4
--- slice-aggregate-value-of-4 : tie.Need-slice-aggregate-value-of-4
--- slice-aggregate-value-of-4 c = search rules
-
 pub value_of-next-requires-in-Priority : goal.value_of-next-requires-in-Priority
 unfolding before
 value_of-next-requires-in-Priority c = (search rules, refl)
-
--- UNCONVERTED slice-aggregate-value-of-5
--- slice-aggregate-value-of-5 : tie.Need-slice-aggregate-value-of-5
--- slice-aggregate-value-of-5 c = search rules
 
 pub value_of-next-requires-in-Events : goal.value_of-next-requires-in-Events
 unfolding before
@@ -93,7 +73,7 @@ unfolding next_by homes_by numbers_by
 returns-in-Nothing c =
     let u = c.turned-in-Nothing.ensures.1 ∙ c.faulted.ensures in
     any_turns _ _ _ _ _ _ _ _ _ Nothing c.in-Nothing.is (λ l. u) (λ l. refl) (λ l. refl) u
-    c.after_Line.ensures c.turned-in-Nothing.ensures.0 refl refl
+    c.after_line.ensures c.turned-in-Nothing.ensures.0 refl refl
 
 pub returns-in-Fault : goal.returns-in-Fault
 unfolding next_by homes_by numbers_by

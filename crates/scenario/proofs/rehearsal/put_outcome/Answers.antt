@@ -10,10 +10,6 @@ use Rattle.scenario.specs.Room.{setup_fits}
 use Rattle.text.specs.Written.{bytes}
 use Rattle.scenario.proofs.rehearsal.put_outcome.Goals as goal
 
--- UNCONVERTED slice-aggregate-put-line
--- slice-aggregate-put-line : tie.Need-slice-aggregate-put-line
--- slice-aggregate-put-line c = search rules
-
 pub put_line-requires : goal.put_line-requires
 unfolding bytes
 put_line-requires c =
@@ -29,10 +25,6 @@ returns-then-b-ne-ACCEPTED c =
     (setup-refused setup_of_lem.result m.events c.args.numbers.now c.if-b-ne-ACCEPTED.true
     ∙ ap (λ (b : Started). outcome_of b m.events c.args.numbers.now) begun)
     c.put_line.ensures
-
--- UNCONVERTED slice-aggregate-put-line-2
--- slice-aggregate-put-line-2 : tie.Need-slice-aggregate-put-line-2
--- slice-aggregate-put-line-2 c = search rules
 
 pub put_line-requires-then-m-gt1024 : goal.put_line-requires-then-m-gt1024
 unfolding bytes

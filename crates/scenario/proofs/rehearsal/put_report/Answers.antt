@@ -8,10 +8,6 @@ use Rattle.scenario.specs.declared.Reading.{Reading}
 use Rattle.text.specs.Written.{bytes}
 use Rattle.scenario.proofs.rehearsal.put_report.Goals as goal
 
--- UNCONVERTED slice-aggregate-put-line
--- slice-aggregate-put-line : tie.Need-slice-aggregate-put-line
--- slice-aggregate-put-line c = search rules
-
 pub put_line-requires : goal.put_line-requires
 unfolding bytes
 put_line-requires c = omega (arith, fault_fits 0, c.requires)
@@ -19,10 +15,6 @@ put_line-requires c = omega (arith, fault_fits 0, c.requires)
 pub returns-then-text-gt-MAX_TEXT : goal.returns-then-text-gt-MAX_TEXT
 unfolding bytes
 returns-then-text-gt-MAX_TEXT c = same (too_long c.args.text.now c.if-text-gt-MAX_TEXT.true) c.put_line.ensures
-
--- UNCONVERTED slice-aggregate-put-line-2
--- slice-aggregate-put-line-2 : tie.Need-slice-aggregate-put-line-2
--- slice-aggregate-put-line-2 c = search rules
 
 pub overflow_cast-m : goal.overflow_cast-m
 overflow_cast-m c =
