@@ -1,23 +1,26 @@
 -- The checks in the code's order are those of the table: the number of the action, what is asked of every event, and
 -- what the action itself asks.
-use Rattle.std.specs.Prelude.{nat_lt, nat_le, slice_index_or}
+use Rattle.std.specs.Prelude.{◌==◌, nat_lt, nat_le, slice_index_or}
 use Prim.Native.Nat.{ℕ, suc, ◌-◌, ◌≤◌, ◌<◌}
 use mathlib.Core.Path.{◌≡◌, refl, sym, ap, ◌∙◌, subst}
 use mathlib.Core.Bool.{Bool, true, false, not, cond, ◌&&◌, ◌||◌, or-false}
 use mathlib.Core.List.{List, [], ◌∷◌, ◌++◌}
 use native.Mathlib.Omega.{arith}
-use borrow.Author.Tests.{ltb-true, leb-true, not-false}
+use borrow.Author.Tests.{ltb-true, leb-true, not-false, eq-eqb, ne_eqb}
 use Rattle.protocol.specs.Lists.{table, table_from}
 use Rattle.protocol.specs.State.{at_home}
 use Rattle.protocol.specs.Check.{Check, given, first_of}
 use Rattle.protocol.specs.Answer.{action_of, no_action, no_site, no_transaction, ill_filled, anywhere, home_table, home_met, wrong_home, wrong_status, wrong_missing, message_there, no_message, lock_clash, no_scan, checks_in_range}
+use Rattle.sets.specs.Set.{all_but}
+use Rattle.protocol.specs.declared.Action.{Action}
 use Rattle.protocol.specs.declared.Event.{Event}
 use Rattle.protocol.specs.declared.State.{State}
 use Rattle.laws.specs.Enabled.{numbered}
 use Rattle.laws.specs.Tests.{both_left, both_right}
 use Rattle.laws.specs.Lists.{get_or-table}
 use Rattle.rules.specs.Refusal.{misplaced_by, unless, receive_refusal, refusal_of}
-use Rattle.rules.specs.Turn.{here_at, told_of}
+use Rattle.rules.specs.Turn.{here_at, told_of, quiet, turn_by, turn_for}
+use Rattle.rules.specs.declared.Here.{Here}
 use Rattle.rules.specs.declared.Told.{Told}
 
 -- a known action has a number from 1 to 12
@@ -133,3 +136,15 @@ module _ (s : State) (e : Event) where
   refused_by_action h m =
       let w = well_placed _ _ _ e m in
       rw (h, w.0, w.1, w.2, w.3) (by_number e h checked refusing 0 twelve)
+
+-- the turn of an event that is placed well: its action refuses it, or is done
+module _ (a : Action) (e : Event) (sites n : ℕ) (w : Told) (h : Here) where
+  pub turn_refused : misplaced_by sites n (h.txn.home == e.site) e ≡ 0 → (refusal_of a w.clash e.txn h ≡ 0 → ⊥)
+      → turn_for a e sites n w h ≡ quiet (refusal_of a w.clash e.txn h) h
+  unfolding turn_for
+  turn_refused m d = rw (eq-eqb _ _ m, ne_eqb _ _ d)
+
+  pub turn_done : misplaced_by sites n (h.txn.home == e.site) e ≡ 0 → refusal_of a w.clash e.txn h ≡ 0
+      → turn_for a e sites n w h ≡ turn_by a h (all_but sites e.site) w.scan e.site e.txn
+  unfolding turn_for
+  turn_done m d = rw (eq-eqb _ _ m, eq-eqb _ _ d)

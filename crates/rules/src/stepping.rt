@@ -16,6 +16,7 @@ pub(crate) fn index(k: u32, n: u32) -> usize
 }
 
 // The turn of an event whose number asks for action a.
+#[tactic(auto, using(crate::proofs::Checks::turn_refused, crate::proofs::Checks::turn_done))]
 fn tried(a: Action, e: Event, sites: u32, count: u32, told: Told, h: Here) -> Turn
     requires { (no_action e ≡ false) × (count ≤ 32) × ((o : ℕ) → o < 32 → slice_index_or h.place.versions o 0 < 255) }
     ensures { result ≡ turn_for a e sites count told h }

@@ -2,5 +2,6 @@ pub mod Filling
 pub mod Fronts
 pub mod Laws
 pub mod Rehearsed
+pub mod RoundTrip
 pub mod Shape
 pub mod Writing

@@ -9,7 +9,7 @@ use Rattle.std.proofs.Math.Pow.{ones_lt, pow-lt}
 use Rattle.std.specs.Int.Bits.{bit_and, bit_or}
 use Rattle.std.proofs.lemmas.Nat.{or_lt}
 use Rattle.std.specs.Int.Count.{ones, ones_in, ones_step, ones-ones}
-use Rattle.sets.specs.Set.{bit, has, none, is_empty, with_in, union, minus, without, overlap, first_in, all_but_in, size_in, those}
+use Rattle.sets.specs.Set.{width, bit, has, none, is_empty, with_in, union, minus, without, overlap, first_in, all_but_in, size_in, those}
 use Rattle.sets.specs.Digits.{digit, bit-zero, bit-suc, bit_of_zero, bit_past, bit-and, bit-or, bit-minus, bit-pow, bit_ones}
 
 -- ---- membership is the test of a digit
@@ -53,6 +53,10 @@ has-none k = has-bit none k false (bit_of_zero k)
 
 pub has_past : (w m k : ℕ) → m < 2 ^ w → w ≤ k → has m k ≡ false
 has_past w m k h l = has-bit m k false (bit_past w m k h l)
+
+-- .. so a mask of the code has no number past its width
+pub has_outside : (m k : ℕ) → m < 2 ^ width → width ≤ k → has m k ≡ false
+has_outside m k h l = has_past width m k h l
 
 -- the bitwise and, by which `overlap` is defined
 has_both : (a b k : ℕ) → has (bit_and a b) k ≡ (has a k && has b k)

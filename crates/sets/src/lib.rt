@@ -6,6 +6,7 @@ ghost use Rattle.std.specs.Prelude.{◌≡◌};
 ghost use Rattle.sets.specs.Set.{has, is_empty, with, without, union, minus, overlap, first, all_but, size};
 
 // Is k in m?
+#[tactic(auto, using(crate::specs::Laws::has_outside), unfolding(crate::specs::Set::has))]
 pub fn has(m: u32, k: usize) -> bool
     ensures { result ≡ has m k }
 {

@@ -20,6 +20,7 @@ pub struct Fields {
 }
 
 // What the bytes are as a decimal: digits, a zero only where it stands alone, and below 2^32.
+#[tactic(auto, using(crate::specs::Laws::number_none, crate::specs::Laws::number_zero, crate::specs::Laws::number_one, crate::specs::Laws::number_many))]
 pub fn decimal(s: &[u8]) -> Number
     ensures { result ≡ number_of s.now }
 {
@@ -118,6 +119,7 @@ pub fn none() -> Fields
 }
 
 // The values of seven decimals with commas between them and nothing else.
+#[tactic(auto, using(crate::proofs::Steps::seven_read))]
 pub fn seven(s: &[u8]) -> Fields
     ensures { result ≡ fields_of s.now }
 {

@@ -13,16 +13,6 @@ returns-in-Not c =
     c.upto-e.ensures.0
     (sym c.decimal.ensures ∙ c.in-Not.is)
 
-pub returns-then-k-eq7 : goal.returns-then-k-eq7
-returns-then-k-eq7 c =
-    seven_read
-    c.loop-k.invariant
-    c.upto-e.ensures.0
-    (sym c.decimal.ensures ∙ c.in-Is.is)
-    (omega arith)
-    c.if-e-s.true
-    c.if-k-eq7.true
-
 pub returns-then-e-s : goal.returns-then-e-s
 returns-then-e-s c =
     c.none-then-e-s.ensures
@@ -32,7 +22,7 @@ returns-then-e-s c =
     (sym c.decimal.ensures ∙ c.in-Is.is)
     (omega arith)
     c.if-e-s.true
-    c.if-k-eq7.false
+    (omega arith)
 
 pub loop-k-preserved : goal.loop-k-preserved
 loop-k-preserved c =

@@ -13,30 +13,7 @@ refusal-j-requires c =
     let p = placed _ _ _ _ (sym c.misplaced-k.ensures ∙ c.if-k-ne-ACCEPTED.false) in
     omega (arith, p.1, c.requires.1)
 
-pub returns-then-j-ne-ACCEPTED : goal.returns-then-j-ne-ACCEPTED
-unfolding turn_for
-returns-then-j-ne-ACCEPTED c =
-    rw (
-      c.quiet-then-j-ne-ACCEPTED.ensures,
-      ← c.refusal-j.ensures,
-      ne_eqb _ _ c.if-j-ne-ACCEPTED.true,
-      ← c.misplaced-k.ensures,
-      eq-eqb _ _ c.if-k-ne-ACCEPTED.false,
-    )
-
 pub effect-requires : goal.effect-requires
 effect-requires c =
     let p = placed _ _ _ _ (sym c.misplaced-k.ensures ∙ c.if-k-ne-ACCEPTED.false) in
     (omega (arith, p.1, c.requires.1), c.requires.2)
-
-pub returns : goal.returns
-unfolding turn_for
-returns c =
-    rw (
-      c.effect.ensures,
-      c.all_but.ensures,
-      ← c.refusal-j.ensures,
-      eq-eqb _ _ c.if-j-ne-ACCEPTED.false,
-      ← c.misplaced-k.ensures,
-      eq-eqb _ _ c.if-k-ne-ACCEPTED.false,
-    )
