@@ -2,11 +2,15 @@
 // come back, to the byte. The file stdout has what this program must print: every scenario the same.
 #![tactic(auto)]
 
-ghost use Rattle.std.specs.Prelude.{◌≤◌, length};
-ghost use Rattle.io.specs.Counts.{IsPrefixLen};
+ghost use Rattle.std.specs.Prelude.{◌≡◌, ◌≤◌, ◌↔◌, length, take, IsTrue, IfOk, IfSome};
+ghost use Rattle.std.specs.Io.{ReadsAtMost};
 
-use libc::STDOUT_FILENO;
-use scenario::{MAX_TEXT, REPORT_ROOM};
+use scenario::REPORT_ROOM;
+use std::env::FillError;
+use std::fs::File;
+use std::io::Read;
+use std::rt::{Env, Files};
+use std::{io, str};
 
 // One byte more than a text or a report may have, so that a longer file is noticed.
 const TEXT: usize = 65537;
@@ -16,7 +20,8 @@ const REPORT: usize = 24577;
 // Puts s into path from place `at` on, as far as there is room, and answers the place after it.
 fn append(path: &mut [u8], at: usize, s: &[u8]) -> usize
     requires { at ≤ length path.old }
-    ensures { IsPrefixLen result path.new }
+    ensures within { result ≤ length path.new }
+    ensures prefix { result ≡ length (take result path.new) }
 {
     let mut n = at;
     while n < path.len() && n - at < s.len() {
@@ -26,25 +31,38 @@ fn append(path: &mut [u8], at: usize, s: &[u8]) -> usize
     n
 }
 
-// Opens the file of a scenario with this ending, and answers a descriptor, or -1.
-fn open(name: &[u8], end: &[u8]) -> i32 {
+// Opens the file of a scenario with this ending, and answers it, or None where that fails. A path is text, so a name
+// that is not UTF-8 has no file.
+fn open<R: Files>(rt: &R, name: &[u8], end: &[u8]) -> Option<R::File> {
     let mut path = [0u8; 300];
     let m = append(&mut path, 0, name);
     let n = append(&mut path, m, end);
-    os::open_read(&path[..n])
+    let text = str::from_utf8(&path[..n]).ok()?;
+    File::open(rt, text).ok()
 }
 
-// Reads a file that was opened to its end, or until buf is full, and closes it.
-fn take(fd: i32, buf: &mut [u8]) -> usize
-    ensures { IsPrefixLen result buf.new }
+// Reads a file that was opened to its end, or until buf is full, and closes it. The bytes are the first of the file, as
+// many as buf takes. A read that fails is an error.
+fn take<R: Read + Drop>(mut file: R, buf: &mut [u8]) -> io::Result<usize>
+    ensures within { ReadsAtMost result buf.new }
+    ensures bytes { IfOk result (λ n. IfSome (R.remaining file)
+        (λ xs. take n buf.new ≡ take (length buf.old) xs)) }
 {
-    let n = io::read_full(fd, buf);
-    libc::close(fd);
-    n
+    let mut done = 0;
+    while done < buf.len() {
+        let n = file.read(&mut buf[done..])?;
+        if n == 0 {
+            break;
+        }
+        done += n;
+    }
+    Ok(done)
 }
 
 // Whether the two hold the same bytes.
-fn equal(a: &[u8], b: &[u8]) -> bool {
+fn equal(a: &[u8], b: &[u8]) -> bool
+    ensures { IsTrue result ↔ (a.now ≡ b.now) }
+{
     if a.len() != b.len() {
         return false;
     }
@@ -59,48 +77,57 @@ fn equal(a: &[u8], b: &[u8]) -> bool {
 }
 
 // Whether the report of the scenario is the stored one; not where a file is missing.
-fn same(name: &[u8]) -> bool {
-    let scenario = open(name, b".scenario");
-    let report = open(name, b".report");
-    if scenario < 0 || report < 0 {
-        return false;
-    }
+fn same(rt: &impl Files, name: &[u8]) -> io::Result<bool> {
+    let scenario = open(rt, name, b".scenario");
+    let report = open(rt, name, b".report");
+    let (Some(scenario), Some(report)) = (scenario, report) else {
+        return Ok(false);
+    };
     let mut text = [0u8; TEXT];
-    let n = take(scenario, &mut text);
+    let n = take(scenario, &mut text)?;
     let mut stored = [0u8; REPORT];
-    let m = take(report, &mut stored);
+    let m = take(report, &mut stored)?;
     let mut out = [0u8; REPORT_ROOM];
     let r = scenario::report(&text[..n], &mut out);
     let k = r.length;
-    equal(&out[..k], &stored[..m])
+    Ok(equal(&out[..k], &stored[..m]))
 }
 
 // Says of one scenario whether its report is the stored one, and answers how many more differ.
-fn tell(name: &[u8]) -> u64
-    ensures { result ≤ 1 }
+fn tell(rt: &(impl Files + Print), name: &[u8]) -> io::Result<u64>
+    ensures { IfOk result (λ n. n ≤ 1) }
 {
-    io::write_all(STDOUT_FILENO, name);
-    if same(name) {
-        io::write_all(STDOUT_FILENO, b" same\n");
-        0
+    rt.write_all(name)?;
+    if same(rt, name)? {
+        rt.write_all(b" same\n")?;
+        Ok(0)
     } else {
-        io::write_all(STDOUT_FILENO, b" differs\n");
-        1
+        rt.write_all(b" differs\n")?;
+        Ok(1)
     }
 }
 
-fn main() {
-    let count = os::arg_count();
-    let mut differ: u64 = 0;
-    let mut i: usize = 1;
-    while i < count {
-        let mut space = [0u8; 256];
-        let n = os::arg(i, &mut space);
-        differ = differ + tell(&space[..n]);
-        i += 1;
+// Puts the argument into space, and answers its length, 0 where it is longer than space, or None where there is none.
+fn name_at(rt: &impl Env, i: usize, space: &mut [u8]) -> Option<usize>
+    ensures { IfSome result (λ n. n ≤ length space.new) }
+{
+    match rt.arg(i, space) {
+        Ok(n) => Some(n),
+        Err(FillError::TooLong) => Some(0),
+        Err(FillError::NotPresent) => None,
     }
-    io::print_decimal(STDOUT_FILENO, i as u64 - 1);
-    io::write_all(STDOUT_FILENO, b" scenarios, ");
-    io::print_decimal(STDOUT_FILENO, differ);
-    io::write_all(STDOUT_FILENO, b" differ\n");
+}
+
+fn main(rt: HostRuntime) -> io::Result<()> {
+    let mut differ: u64 = 0;
+    let mut count: u64 = 0;
+    for i in 1..usize::MAX {
+        let mut space = [0u8; 256];
+        let Some(n) = name_at(&rt, i, &mut space) else {
+            break;
+        };
+        differ += tell(&rt, &space[..n])?;
+        count += 1;
+    }
+    println!(rt; "{count} scenarios, {differ} differ")
 }

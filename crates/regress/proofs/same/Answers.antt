@@ -1,0 +1,13 @@
+-- The report is inside its bytes.
+use Rattle.std.proofs.Common.{sym}
+use Rattle.std.proofs.lemmas.List.{length-take-le}
+use Rattle.scenario.specs.Room.{within}
+use Rattle.regress.proofs.same.Goals as goal
+
+pub slice_bounds-out-end : goal.slice_bounds-out-end
+slice_bounds-out-end g c = let report = c.report-r in within _ _ report.ensures.0 report.ensures.1
+
+pub slice_bounds-equal-end : goal.slice_bounds-equal-end
+slice_bounds-equal-end g c =
+    let report = c.report-r in
+    sym (length-take-le _ _ (within _ _ report.ensures.0 report.ensures.1))
