@@ -1,6 +1,6 @@
 -- 01, "Shortcuts that break the rule": for each a run that comes out otherwise under the shortcut. The first two are
 -- marked cases.
-use Rattle.std.specs.Prelude.{ℕ, List, [], ◌∷◌, ◌++◌, map, ◌≡◌, refl}
+use Rattle.std.specs.Prelude.{List, [], ◌∷◌, ◌++◌, map, ◌≡◌, refl}
 use Rattle.protocol.specs.Cases.{Case, outcome_of, lying, create, begin_operation, end_operation, begin_commit, receive_remote, execute_remote}
 use Rattle.protocol.specs.Marked.{of_three, writes, asks, reaches, case7, case8}
 use Rattle.protocol.specs.declared.Message.TheVariants.{Remote, Ready}

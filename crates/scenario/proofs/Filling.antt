@@ -1,6 +1,6 @@
 -- A loop that fills a list of n elements front to back: after n turns the list is the table.
 use Rattle.std.specs.Prelude.{slice_index_or}
-use Rattle.std.proofs.Common.{◌≡◌, ℕ, ◌+◌, ◌<◌, ◌≤◌, List, length, set, sym, ◌∙◌, subst, arith, length-set, get_or-set_other, get_or-set_same, ext_get_or}
+use Rattle.std.proofs.Common.{◌≡◌, ℕ, ◌+◌, ◌<◌, ◌≤◌, List, length, set, sym, ◌∙◌, arith, length-set, get_or-set_other, get_or-set_same, ext_get_or}
 use Rattle.protocol.specs.Lists.{table}
 use Rattle.laws.specs.Tests.{Same, same, other, same?}
 use Rattle.laws.specs.Lists.{length-table, get_or-table}

@@ -1,5 +1,5 @@
 -- 01, "Scenario and report": what is printed for a text.
-use Rattle.std.specs.Prelude.{ℕ, zero, suc, ◌+◌, ◌*◌, Bool, true, false, cond, List, [], ◌∷◌, ◌++◌, length, take, ◌==◌, nat_lt}
+use Rattle.std.specs.Prelude.{ℕ, zero, suc, ◌*◌, cond, List, [], ◌∷◌, ◌++◌, length, take, ◌==◌, nat_lt}
 use Rattle.std.proofs.lemmas.List.Edits.{sets}
 use Rattle.protocol.specs.State.{max_events, row_at, place_at, log_of}
 use Rattle.protocol.specs.Setup.{setup_of}

@@ -1,4 +1,4 @@
-use Rattle.std.proofs.Common.{refl, ◌-◌, arith}
+use Rattle.std.proofs.Common.{refl, arith}
 use Rattle.text.proofs.Steps.{below_digits, above_digits, too_large, digit-more, digits-ended}
 use Rattle.text.proofs.from_digits.Goals as goal
 

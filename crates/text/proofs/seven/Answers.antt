@@ -1,5 +1,5 @@
-use Rattle.std.proofs.Common.{refl, sym, ◌∙◌, ◌-◌, arith}
-use Rattle.text.proofs.Steps.{part_not, part_more, seven_read, too_few, too_many}
+use Rattle.std.proofs.Common.{refl, sym, ◌∙◌, arith}
+use Rattle.text.proofs.Steps.{part_not, part_more, too_few, too_many}
 use Rattle.text.proofs.seven.Goals as goal
 
 pub loop-k-init : goal.loop-k-init

@@ -1,4 +1,4 @@
-use Rattle.std.proofs.Common.{refl, ◌-◌, arith}
+use Rattle.std.proofs.Common.{refl, arith}
 use Rattle.text.proofs.Steps.{line_short, bytes_differ, bytes_alike, key_ended}
 use Rattle.text.proofs.starts.Goals as goal
 

@@ -1,4 +1,4 @@
-use Rattle.std.proofs.Common.{◌-◌, arith}
+use Rattle.std.proofs.Common.{arith}
 use Rattle.text.proofs.Steps.{sought_past, found_here, passed_more, passed_all}
 use Rattle.text.proofs.upto.Goals as goal
 

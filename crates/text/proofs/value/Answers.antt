@@ -1,5 +1,5 @@
 -- A line that starts with the key is at least as long, and the decimal is read from there on.
-use Rattle.std.proofs.Common.{sym, ◌∙◌, arith, rules}
+use Rattle.std.proofs.Common.{sym, ◌∙◌, arith}
 use Rattle.text.proofs.Steps.{value_of_lem, value_not}
 use Rattle.text.specs.Laws.{starts_long}
 use Rattle.text.proofs.value.Goals as goal

@@ -1,5 +1,5 @@
 -- Each return is a side of the definition, by the numbers that the checks give.
-use Rattle.std.proofs.Common.{sym, ◌∙◌, arith, eq-eqb, ne_eqb}
+use Rattle.std.proofs.Common.{sym, ◌∙◌, arith, ne_eqb}
 use Rattle.rules.proofs.Checks.{placed}
 use Rattle.rules.specs.Turn.{turn_for}
 use Rattle.rules.proofs.stepping.tried.Goals as goal

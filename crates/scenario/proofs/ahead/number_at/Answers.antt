@@ -1,4 +1,4 @@
-use Rattle.std.proofs.Common.{◌-◌, arith}
+use Rattle.std.proofs.Common.{arith}
 use Rattle.scenario.proofs.Fronts.{digit-first, digit-next, digits_end}
 use Rattle.scenario.proofs.ahead.number_at.Goals as goal
 

@@ -1,4 +1,4 @@
-use Rattle.std.proofs.Common.{◌-◌, refl, arith}
+use Rattle.std.proofs.Common.{refl, arith}
 use Rattle.scenario.proofs.Fronts.{line_begun, begun_more, begun_all}
 use Rattle.scenario.proofs.ahead.seven_at.Goals as goal
 

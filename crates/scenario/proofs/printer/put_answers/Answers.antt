@@ -1,4 +1,4 @@
-use Rattle.std.proofs.Common.{◌-◌, refl, arith}
+use Rattle.std.proofs.Common.{arith}
 use Rattle.scenario.proofs.Writing.{put-length, answer_rows, rows_room, rows_begin, rows_again, rows_end}
 use Rattle.text.specs.Written.{bytes}
 use Rattle.scenario.proofs.printer.put_answers.Goals as goal

@@ -1,4 +1,4 @@
-use Rattle.std.proofs.Common.{◌-◌, arith}
+use Rattle.std.proofs.Common.{arith}
 use Rattle.scenario.proofs.Writing.{one, put-length, byte_rows, rows_begin, rows_again, rows_end}
 use Rattle.scenario.proofs.printer.put_bytes.Goals as goal
 

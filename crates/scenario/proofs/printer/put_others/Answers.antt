@@ -1,4 +1,4 @@
-use Rattle.std.proofs.Common.{◌-◌, arith, length-set}
+use Rattle.std.proofs.Common.{arith, length-set}
 use Rattle.scenario.proofs.Writing.{one, then, put-length, other_rows, rows_room, rows_begin, rows_again, rows_end}
 use Rattle.scenario.proofs.printer.put_others.Goals as goal
 

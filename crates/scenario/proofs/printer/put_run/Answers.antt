@@ -1,5 +1,5 @@
 -- The answers, the sites and the messages are written one after the other, and together are no longer than the room.
-use Rattle.std.proofs.Common.{arith, rules}
+use Rattle.std.proofs.Common.{arith}
 use Rattle.scenario.proofs.Shape.{run_room}
 use Rattle.scenario.proofs.Writing.{then}
 use Rattle.scenario.specs.Put.{end_lines}

@@ -1,5 +1,5 @@
 -- The two lines are written one after the other.
-use Rattle.std.proofs.Common.{arith, rules}
+use Rattle.std.proofs.Common.{arith}
 use Rattle.scenario.proofs.Writing.{then}
 use Rattle.scenario.specs.Put.{site_of}
 use Rattle.scenario.specs.Room.{site_length}

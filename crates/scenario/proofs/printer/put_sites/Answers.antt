@@ -1,4 +1,4 @@
-use Rattle.std.proofs.Common.{◌≡◌, ℕ, ◌-◌, sym, ap, arith}
+use Rattle.std.proofs.Common.{◌≡◌, ℕ, sym, ap, arith}
 use Rattle.scenario.proofs.Writing.{none, then, same, put-length}
 use Rattle.scenario.specs.Report.{site_lines}
 use Rattle.scenario.specs.Room.{sites_none, sites_next, sites_part}

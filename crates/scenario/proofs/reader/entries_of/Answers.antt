@@ -1,4 +1,4 @@
-use Rattle.std.proofs.Common.{◌-◌, rules}
+use Rattle.std.proofs.Common.{rules}
 use Rattle.scenario.proofs.Filling.{filled_none, filled_next, filled_all}
 use Rattle.scenario.specs.Format.{entries_in}
 use Rattle.scenario.proofs.reader.entries_of.Goals as goal

@@ -1,5 +1,5 @@
 -- A key, seven decimals and a line feed are a line with that event, and any other is read by its parts.
-use Rattle.std.proofs.Common.{sym, ◌∙◌, arith, rules}
+use Rattle.std.proofs.Common.{sym, ◌∙◌, arith}
 use Rattle.scenario.proofs.Laws.{event_ahead}
 use Rattle.text.specs.Written.{bytes}
 use Rattle.scenario.proofs.reader.event_at.Goals as goal

@@ -1,5 +1,5 @@
 -- A line that starts with the key is at least as long, and its numbers are read from there on.
-use Rattle.std.proofs.Common.{sym, ◌∙◌, arith, rules}
+use Rattle.std.proofs.Common.{sym, ◌∙◌, arith}
 use Rattle.scenario.proofs.Laws.{event_is}
 use Rattle.scenario.specs.Format.{event_of}
 use Rattle.text.specs.Laws.{starts_long}

@@ -1,4 +1,4 @@
-use Rattle.std.proofs.Common.{◌-◌, refl, arith}
+use Rattle.std.proofs.Common.{refl, arith}
 use Rattle.scenario.proofs.Laws.{begun, ended, turned, results}
 use Rattle.scenario.proofs.reader.read.Goals as goal
 

@@ -1,5 +1,5 @@
 -- The setup is refused, or there are too many events, or the run is reported from a state in range.
-use Rattle.std.proofs.Common.{◌*◌, sym, ap, ◌∙◌, arith, length-take, length-take-le, rules}
+use Rattle.std.proofs.Common.{◌*◌, sym, ap, ◌∙◌, arith, length-take, length-take-le}
 use Rattle.laws.specs.Runs.{setup_of_ranged}
 use Rattle.protocol.specs.Setup.{setup_of}
 use Rattle.protocol.specs.declared.Started.{Started}

@@ -1,5 +1,5 @@
 -- The text is too long, at fault, or of the form.
-use Rattle.std.proofs.Common.{replicate, sym, ap, ◌∙◌, arith, rules}
+use Rattle.std.proofs.Common.{replicate, sym, ap, ◌∙◌, arith}
 use Rattle.scenario.proofs.Laws.{line_near}
 use Rattle.scenario.proofs.Rehearsed.{too_long, read_fault, read_whole}
 use Rattle.scenario.proofs.Writing.{same}
