@@ -1,5 +1,6 @@
 -- The actions but the scan, as moves: what each makes of a state is seen as what its move makes of the view.
-use Rattle.onecopy.specs.Words.{ℕ, ◌+◌, ◌≤◌, ◌<◌, ◌≡◌, refl, sym, ap, ◌∙◌, fun_ext, subst, Bool, true, false, not, cond, ◌&&◌, ◌||◌, and-false, and_comm, ◌≢◌, List, [], ◌∷◌, ◌++◌, arith, length, eqb-true, has, none, is_empty, with, without, union, minus, has-union, has-minus, empty_none, each, store_at, max_sites, max_txns, objects, idle, start, active, blocked, precommit, committed, aborted, status_in, ready_in, version_in, row_at, place_at, txn_at, with_status, with_place, with_txn, with_queue, with_channel, with_pending, with_missing, appended, clashes_with, received, others, multicast, is, clash_at, only, Message, Remote, Ready, Commit, Abort, Place, Txn, State, some_none, length-each, some_read, has_dropped, has_added, has-only, has-others, PlaceShaped, Shaped, place_shaped, status_shaped, txn_shaped, sites_fit, count_fits, not-queued, with-taken, with_commit, SiteKept, clash_reads, clash-writes, Fine, site_stands, txn_stands, home_fits, Cmp, cmp, eqb_same, eqb_other, same, other, ◌==◌, slice_index_or}
+use Rattle.std.specs.Prelude.{ℕ, ◌+◌, ◌≤◌, ◌<◌, ◌≡◌, refl, Bool, true, false, not, cond, ◌&&◌, ◌||◌, ◌≢◌, List, [], ◌∷◌, ◌++◌, length, ◌==◌, slice_index_or}
+use Rattle.onecopy.specs.Words.{sym, ap, ◌∙◌, fun_ext, subst, and-false, and_comm, arith, eqb-true, has, none, is_empty, with, without, union, minus, has-union, has-minus, empty_none, each, store_at, max_sites, max_txns, objects, idle, start, active, blocked, precommit, committed, aborted, status_in, ready_in, version_in, row_at, place_at, txn_at, with_status, with_place, with_txn, with_queue, with_channel, with_pending, with_missing, appended, clashes_with, received, others, multicast, is, clash_at, only, Message, Remote, Ready, Commit, Abort, Place, Txn, State, some_none, length-each, some_read, has_dropped, has_added, has-only, has-others, PlaceShaped, Shaped, place_shaped, status_shaped, txn_shaped, sites_fit, count_fits, not-queued, with-taken, with_commit, SiteKept, clash_reads, clash-writes, Fine, site_stands, txn_stands, home_fits, Cmp, cmp, eqb_same, eqb_other, same, other}
 use Rattle.protocol.specs.Database.{noted, ended, woken, stored, commit_here, clash}
 use Rattle.protocol.specs.Channel.{lies, taken}
 use Rattle.laws.specs.Compare as compare

@@ -1,5 +1,6 @@
 -- Apart: of two transactions that execute at one site, neither holds there an object that the other writes.
-use Rattle.onecopy.specs.Words.{ℕ, ◌<◌, ◌≡◌, refl, sym, ◌∙◌, Bool, true, false, cond, ◌&&◌, ◌||◌, and-false, ◌≢◌, ⊎_elim, arith, idle, start, active, blocked, committed, either, either_left, either_right, Cmp, cmp, eqb_same, eqb_other, clash, untrue, same, other, ◌==◌}
+use Rattle.std.specs.Prelude.{ℕ, ◌<◌, ◌≡◌, refl, Bool, true, false, cond, ◌&&◌, ◌||◌, ◌≢◌, ◌==◌}
+use Rattle.onecopy.specs.Words.{sym, ◌∙◌, and-false, ⊎_elim, arith, idle, start, active, blocked, committed, either, either_left, either_right, Cmp, cmp, eqb_same, eqb_other, clash, untrue, same, other}
 use Rattle.onecopy.specs.Tables.{upd, Read, new, old, upd_read, was}
 use Rattle.onecopy.specs.Phase as phase
 use Rattle.onecopy.specs.Phases.{Phases}

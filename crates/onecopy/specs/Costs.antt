@@ -1,5 +1,6 @@
 -- How many messages: those that an action sends about a transaction, and those that it sends in all.
-use Rattle.onecopy.specs.Words.{ℕ, zero, suc, ◌+◌, ◌*◌, ◌-◌, ◌<◌, ◌≡◌, refl, sym, ap, ap₂, ◌∙◌, fun_ext, Bool, true, false, cond, ◌&&◌, arith, has, size, txn_at, others, State, total-zero, total_add, total_one, total_scaled, total_size, Below, sites_fit, count_fits, Fine, home_fits, eqb_same, others_below, ◌==◌}
+use Rattle.std.specs.Prelude.{ℕ, zero, suc, ◌+◌, ◌*◌, ◌-◌, ◌<◌, ◌≡◌, refl, Bool, true, false, cond, ◌&&◌, ◌==◌}
+use Rattle.onecopy.specs.Words.{sym, ap, ap₂, ◌∙◌, fun_ext, arith, has, size, txn_at, others, State, total-zero, total_add, total_one, total_scaled, total_size, Below, sites_fit, count_fits, Fine, home_fits, eqb_same, others_below}
 use Rattle.laws.specs.Count.{total}
 use Rattle.onecopy.specs.Statements.{Sendings, sends, sent_about}
 use Rattle.onecopy.specs.Tables.{more}

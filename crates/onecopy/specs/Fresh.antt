@@ -1,5 +1,6 @@
 -- The state of an accepted setup is as the invariant asks, with an empty L and nothing spent.
-use Rattle.onecopy.specs.Words.{ℕ, ◌≤◌, ◌<◌, ◌≡◌, refl, sym, ap, ◌∙◌, false, cond, ◌&&◌, ◌⊎◌, inl, inr, ⊎_elim, List, [], Memᴰ-not_nil, arith, length, replicate, length-replicate, get_or-replicate, get_or-eq_default, ltb-true, ltb-false, lt-ltb, eqb-true, has, none, has-none, table, max_sites, max_txns, objects, idle, start, committed, empty_place, empty_txn, no_row, no_place, no_txn, log_of, place_at, txn_at, entry_at, setup_answer, Entry, Place, Txn, State, Test, yes_so, not_so, test, length-table, get_or-table, cond_keeps, total-zero, range_out, count_fits, Fine, setup_ranged, ◌==◌, nat_lt, slice_index_or}
+use Rattle.std.specs.Prelude.{ℕ, ◌≤◌, ◌<◌, ◌≡◌, refl, false, cond, ◌&&◌, ◌⊎◌, List, [], length, replicate, ◌==◌, nat_lt, slice_index_or}
+use Rattle.onecopy.specs.Words.{sym, ap, ◌∙◌, inl, inr, ⊎_elim, Memᴰ-not_nil, arith, length-replicate, get_or-replicate, get_or-eq_default, ltb-true, ltb-false, lt-ltb, eqb-true, has, none, has-none, table, max_sites, max_txns, objects, idle, start, committed, empty_place, empty_txn, no_row, no_place, no_txn, log_of, place_at, txn_at, entry_at, setup_answer, Entry, Place, Txn, State, Test, yes_so, not_so, test, length-table, get_or-table, cond_keeps, total-zero, range_out, count_fits, Fine, setup_ranged}
 use Rattle.protocol.specs.Setup.{fresh_row, fresh_txn, fresh_state, setup}
 use Rattle.onecopy.specs.Histories.{once_nil, level}
 use Rattle.onecopy.specs.Phase.{early, absent, starts}

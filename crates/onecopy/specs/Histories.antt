@@ -1,6 +1,7 @@
 -- Lists of transactions in the order of their commits, which grow at the end: those that write an object, the version
 -- that the last of them leaves, and how far a site's log lags behind L.
-use Rattle.onecopy.specs.Words.{ℕ, ◌+◌, ◌≡◌, refl, sym, ◌∙◌, ap, Bool, true, false, cond, false≢true, ◌⊎◌, inl, inr, ⊎_elim, List, [], ◌∷◌, ◌++◌, Memᴰ-head, Memᴰ-tail, Memᴰ-append_cases, Memᴰ-eq_of_singleton, Memᴰ-not_nil, Memᴰ-append_left, Memᴰ-append_right, put, keep, in_keep, keep_in, keep_ext, keep_yes, keep_no}
+use Rattle.std.specs.Prelude.{ℕ, ◌+◌, ◌≡◌, refl, Bool, true, false, cond, ◌⊎◌, List, [], ◌∷◌, ◌++◌}
+use Rattle.onecopy.specs.Words.{sym, ◌∙◌, ap, false≢true, inl, inr, ⊎_elim, Memᴰ-head, Memᴰ-tail, Memᴰ-append_cases, Memᴰ-eq_of_singleton, Memᴰ-not_nil, Memᴰ-append_left, Memᴰ-append_right, put, keep, in_keep, keep_in, keep_ext, keep_yes, keep_no}
 use Rattle.onecopy.specs.Statements.{In, Before, now, later, Once, ran_on, replay}
 
 -- ---- the version that the last of a list leaves

@@ -1,5 +1,6 @@
 -- The whole invariant, and that every move keeps it.
-use Rattle.onecopy.specs.Words.{ℕ, ◌<◌, ◌≡◌, Bool, true, false, aborted, Cmp, cmp, same, other, ◌==◌}
+use Rattle.std.specs.Prelude.{ℕ, ◌<◌, ◌≡◌, Bool, true, false, ◌==◌}
+use Rattle.onecopy.specs.Words.{aborted, Cmp, cmp, same, other}
 use Rattle.onecopy.specs.Views.{View, Move}
 use Rattle.onecopy.specs.Phase as phase
 use Rattle.onecopy.specs.Phases.{Phases, phases_kept, Own, own-quiet, own-kept}

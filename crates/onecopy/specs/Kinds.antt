@@ -1,6 +1,7 @@
 -- The moves by what they do to statuses, sets and logs: seven kinds. What is said of conflicts, logs and versions is shown
 -- once for each kind.
-use Rattle.onecopy.specs.Words.{ℕ, ◌<◌, ◌≡◌, refl, Bool, true, false, cond, ◌&&◌, ◌||◌, ◌≢◌, ⊎_elim, [], ◌∷◌, ◌++◌, arith, eqb-true, idle, start, active, blocked, precommit, committed, aborted, either, Cmp, cmp, same, ◌==◌}
+use Rattle.std.specs.Prelude.{ℕ, ◌<◌, ◌≡◌, refl, Bool, true, false, cond, ◌&&◌, ◌||◌, ◌≢◌, [], ◌∷◌, ◌++◌, ◌==◌}
+use Rattle.onecopy.specs.Words.{⊎_elim, arith, eqb-true, idle, start, active, blocked, precommit, committed, aborted, either, Cmp, cmp, same}
 use Rattle.protocol.specs.Database.{executes}
 use Rattle.onecopy.specs.Tables.{upd, upd-put, was}
 use Rattle.onecopy.specs.Phase as phase

@@ -1,5 +1,6 @@
 -- Logs, versions and noted reads against L: the clauses Listed, Logged, Stored, Ordered (as Lag), Held-still and Serial.
-use Rattle.onecopy.specs.Words.{ℕ, ◌+◌, ◌<◌, ◌≡◌, refl, sym, ◌∙◌, ap, Bool, true, false, not, cond, ◌&&◌, ◌||◌, false≢true, ◌≢◌, ⊎_elim, List, [], ◌∷◌, ◌++◌, Memᴰ-head, Memᴰ-tail, Memᴰ-append_cases, Memᴰ-eq_of_singleton, Memᴰ-append_left, Memᴰ-append_right, arith, ltb-true, lt-ltb, eqb-false, objects, idle, active, blocked, precommit, committed, either_left, either_right, Cmp, cmp, eqb_same, eqb_other, clash, keep, keep_yes, keep_no, keep_ext, same, other, ◌==◌, nat_lt}
+use Rattle.std.specs.Prelude.{ℕ, ◌+◌, ◌<◌, ◌≡◌, refl, Bool, true, false, not, cond, ◌&&◌, ◌||◌, ◌≢◌, List, [], ◌∷◌, ◌++◌, ◌==◌, nat_lt}
+use Rattle.onecopy.specs.Words.{sym, ◌∙◌, ap, false≢true, ⊎_elim, Memᴰ-head, Memᴰ-tail, Memᴰ-append_cases, Memᴰ-eq_of_singleton, Memᴰ-append_left, Memᴰ-append_right, arith, ltb-true, lt-ltb, eqb-false, objects, idle, active, blocked, precommit, committed, either_left, either_right, Cmp, cmp, eqb_same, eqb_other, clash, keep, keep_yes, keep_no, keep_ext, same, other}
 use Rattle.onecopy.specs.Statements.{In, Once, ran_on, replay}
 use Rattle.onecopy.specs.Tables.{upd, Read, new, old, upd_read, upd-put, was}
 use Rattle.onecopy.specs.Histories.{last, last_snoc, replay-last, once_snoc, Lag, lag_last, lag_late, lag_ext, lag_led, lag_followed}

@@ -1,6 +1,7 @@
 -- One transaction as its home and one other site see it: the phases that it goes through. The clauses Unasked, Asked,
 -- Done, Never-alone, Undone, Remote, Ready, Commit, Abort and Queued of docs/ONECOPY.md are what its constructors allow.
-use Rattle.onecopy.specs.Words.{ℕ, suc, ◌≤◌, ◌≡◌, refl, Bool, true, false, ◌≢◌, ◌⊎◌, inl, inr, arith, idle, start, active, blocked, precommit, committed, aborted}
+use Rattle.std.specs.Prelude.{ℕ, suc, ◌≤◌, ◌≡◌, refl, Bool, true, false, ◌≢◌, ◌⊎◌}
+use Rattle.onecopy.specs.Words.{inl, inr, arith, idle, start, active, blocked, precommit, committed, aborted}
 
 -- home works on it, or there is no such transaction
 pub data Unasked : ℕ → Type 0 where

@@ -1,6 +1,7 @@
 -- Every move keeps every transaction in a phase with every site other than its home, and keeps its own home's channel free
 -- of remote, commit and abort about it.
-use Rattle.onecopy.specs.Words.{ℕ, suc, ◌<◌, ◌≡◌, refl, sym, ◌∙◌, subst, Bool, true, false, cond, ◌&&◌, and-false, ◌≢◌, lt-ltb, precommit, aborted, Cmp, cmp, eqb_same, eqb_other, same, other, ◌==◌, nat_lt}
+use Rattle.std.specs.Prelude.{ℕ, suc, ◌<◌, ◌≡◌, refl, Bool, true, false, cond, ◌&&◌, ◌≢◌, ◌==◌, nat_lt}
+use Rattle.onecopy.specs.Words.{sym, ◌∙◌, subst, and-false, lt-ltb, precommit, aborted, Cmp, cmp, eqb_same, eqb_other, same, other}
 use Rattle.onecopy.specs.Phase as phase
 use Rattle.onecopy.specs.Phase.{Phase}
 use Rattle.onecopy.specs.Views.{View, Net, Runs, works, blocks, asks, besides, quits, Move, create, begin_operation, end_operation, end_away, begin_commit, end_commit, quit, receive_remote, receive_ready, submit, receive_commit, receive_abort, discard_remote, discard_ready}

@@ -1,6 +1,7 @@
 -- Every action that is enabled, and so every event and every list of events, refused ones among them, keeps the invariant
 -- with L and the costs of the run so far.
-use Rattle.onecopy.specs.Words.{ℕ, ◌+◌, ◌<◌, ◌≡◌, refl, sym, ap, ap₂, ◌∙◌, fun_ext, subst, Bool, true, false, not, cond, ◌&&◌, ◌||◌, List, [], ◌∷◌, ◌++◌, append-nil, append_assoc, arith, eqb-true, eqb-false, not-true, eq-eqb, ne_eqb, width, has, none, is_empty, size, has-none, size_none, idle, active, blocked, precommit, committed, aborted, txn_at, place_at, at_home, with_status, with_txn, ended, others, scan_from, is, away, clash_at, only, Remote, Ready, Commit, Abort, Action, Create, BeginOperation, EndOperation, BeginCommit, EndCommit, LocalAbort, Receive, ExecuteRemote, Discard, State, Test, yes_so, not_so, test, both_left, both_right, add-zero, add_assoc, action_of, answer, step, Event, total, total-zero, total_add, Below, below_none, below_with, sites_fit, count_fits, has-only, has-others, size-only, Fine, effect_fine, scan_keeps, scanned, Scanning, scanning, scanning_first, eqb_sym, doable, step-done, step-refused, ◌==◌}
+use Rattle.std.specs.Prelude.{ℕ, ◌+◌, ◌<◌, ◌≡◌, refl, Bool, true, false, not, cond, ◌&&◌, ◌||◌, List, [], ◌∷◌, ◌++◌, ◌==◌}
+use Rattle.onecopy.specs.Words.{sym, ap, ap₂, ◌∙◌, fun_ext, subst, append-nil, append_assoc, arith, eqb-true, eqb-false, not-true, eq-eqb, ne_eqb, width, has, none, is_empty, size, has-none, size_none, idle, active, blocked, precommit, committed, aborted, txn_at, place_at, at_home, with_status, with_txn, ended, others, scan_from, is, away, clash_at, only, Remote, Ready, Commit, Abort, Action, Create, BeginOperation, EndOperation, BeginCommit, EndCommit, LocalAbort, Receive, ExecuteRemote, Discard, State, Test, yes_so, not_so, test, both_left, both_right, add-zero, add_assoc, action_of, answer, step, Event, total, total-zero, total_add, Below, below_none, below_with, sites_fit, count_fits, has-only, has-others, size-only, Fine, effect_fine, scan_keeps, scanned, Scanning, scanning, scanning_first, eqb_sym, doable, step-done, step-refused}
 use Rattle.laws.specs.Tests.{Same, same, other, same?}
 use Rattle.laws.specs.Ranged.{step_counts}
 use Rattle.protocol.specs.Database.{woken, commit_here}

@@ -1,6 +1,7 @@
 -- The scan as moves: the state with what a scan has done so far; every turn keeps the invariant of it; and what it leaves
 -- is the state with all that it has done.
-use Rattle.onecopy.specs.Words.{ℕ, suc, ◌≤◌, ◌<◌, ◌≡◌, refl, sym, ap, ◌∙◌, fun_ext, subst, ap₂, Bool, true, false, not, cond, ◌&&◌, ◌||◌, and-true, and-false, or-false, and-or_distrib_right, false≢true, ◌≢◌, ⊎_elim, List, arith, set, length-set, length, get_or-set_same, get_or-set_other, lt-ltb, ltb-true, ltb-false, eqb-true, width, has, with, without, union, none, has-union, has-those, has-with, has-with_other, has-without, has-without_same, ext, has-none, store_at, each, max_txns, idle, blocked, precommit, aborted, status_in, row_at, place_at, txn_at, max_sites, no_row, no_place, with_row, with_place, with_queue, conflicts_with, must_wait, scan_from, Scan, State, Test, yes_so, not_so, test, both_left, both_right, either, multicast, ready_home, Ready, Abort, Row, Place, length-each, RowShaped, PlaceShaped, Shaped, in_without, count_fits, in_none, Below, sites_fit, conflict_writes, conflict_executes, Fine, site_stands, home_fits, Lasts, scan_one_lem, scan_conflict, scan_keeps, scan_ends, Scanning, scanning, scanning_first, Cmp, cmp, eqb_same, eqb_other, untrue, clash, set_at, set_by, some_read, has_added, site_shaped, delivered_shaped, scanned, same, other, ◌==◌, nat_lt, slice_index_or}
+use Rattle.std.specs.Prelude.{ℕ, suc, ◌≤◌, ◌<◌, ◌≡◌, refl, Bool, true, false, not, cond, ◌&&◌, ◌||◌, ◌≢◌, List, set, length, ◌==◌, nat_lt, slice_index_or}
+use Rattle.onecopy.specs.Words.{sym, ap, ◌∙◌, fun_ext, subst, ap₂, and-true, and-false, or-false, and-or_distrib_right, false≢true, ⊎_elim, arith, length-set, get_or-set_same, get_or-set_other, lt-ltb, ltb-true, ltb-false, eqb-true, width, has, with, without, union, none, has-union, has-those, has-with, has-with_other, has-without, has-without_same, ext, has-none, store_at, each, max_txns, idle, blocked, precommit, aborted, status_in, row_at, place_at, txn_at, max_sites, no_row, no_place, with_row, with_place, with_queue, conflicts_with, must_wait, scan_from, Scan, State, Test, yes_so, not_so, test, both_left, both_right, either, multicast, ready_home, Ready, Abort, Row, Place, length-each, RowShaped, PlaceShaped, Shaped, in_without, count_fits, in_none, Below, sites_fit, conflict_writes, conflict_executes, Fine, site_stands, home_fits, Lasts, scan_one_lem, scan_conflict, scan_keeps, scan_ends, Scanning, scanning, scanning_first, Cmp, cmp, eqb_same, eqb_other, untrue, clash, set_at, set_by, some_read, has_added, site_shaped, delivered_shaped, scanned, same, other}
 use Rattle.protocol.specs.Database.{conflicts}
 use Rattle.protocol.specs.Scan.{waits, asked, submits, scan_leaves, scan}
 use Rattle.onecopy.specs.Tables.{upd, mark, more}

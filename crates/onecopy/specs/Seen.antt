@@ -1,5 +1,6 @@
 -- A state as the invariant sees it, and how the changes of which every action is made are seen.
-use Rattle.onecopy.specs.Words.{ℕ, ◌+◌, ◌≤◌, ◌<◌, ◌≡◌, refl, ap, ◌∙◌, fun_ext, Bool, true, false, cond, ◌&&◌, and-true, ◌≢◌, List, [], ◌∷◌, ◌++◌, arith, length, set, length-set, get_or-eq_default, get_or-set_same, get_or-set_other, lt-ltb, le-ltb, ltb-true, ltb-false, eqb-true, has, none, without, each, store_at, max_sites, max_txns, objects, idle, committed, status_in, ready_in, log_of, version_in, no_row, no_place, no_txn, row_at, place_at, txn_at, row_with, with_status, with_places, with_place, with_txn, with_channel, appended, others, multicast, is, Message, Remote, Ready, Commit, Abort, Row, Place, Txn, State, Test, yes_so, not_so, test, get_or-each, length-each, set_at, set_by, some_read, has_dropped, has-joined, has-others, PlaceShaped, Shaped, entries_of, sites_fit, count_fits, log_grown, Fine, site_stands, Cmp, cmp, same, other, ◌==◌, nat_lt, slice_index_or}
+use Rattle.std.specs.Prelude.{ℕ, ◌+◌, ◌≤◌, ◌<◌, ◌≡◌, refl, Bool, true, false, cond, ◌&&◌, ◌≢◌, List, [], ◌∷◌, ◌++◌, length, set, ◌==◌, nat_lt, slice_index_or}
+use Rattle.onecopy.specs.Words.{ap, ◌∙◌, fun_ext, and-true, arith, length-set, get_or-eq_default, get_or-set_same, get_or-set_other, lt-ltb, le-ltb, ltb-true, ltb-false, eqb-true, has, none, without, each, store_at, max_sites, max_txns, objects, idle, committed, status_in, ready_in, log_of, version_in, no_row, no_place, no_txn, row_at, place_at, txn_at, row_with, with_status, with_places, with_place, with_txn, with_channel, appended, others, multicast, is, Message, Remote, Ready, Commit, Abort, Row, Place, Txn, State, Test, yes_so, not_so, test, get_or-each, length-each, set_at, set_by, some_read, has_dropped, has-joined, has-others, PlaceShaped, Shaped, entries_of, sites_fit, count_fits, log_grown, Fine, site_stands, Cmp, cmp, same, other}
 use Rattle.sets.specs.Set.{union}
 use Rattle.protocol.specs.Lists.{each_from}
 use Rattle.protocol.specs.Channel.{put, ready_with, delivered}

@@ -1,5 +1,6 @@
 -- Tables by two numbers, as a site and a transaction: one place stored anew, and what is read of the table then.
-use Rattle.onecopy.specs.Words.{ℕ, suc, ◌≡◌, Bool, true, false, cond, ◌&&◌, Cmp, cmp, same, other, ◌==◌}
+use Rattle.std.specs.Prelude.{ℕ, suc, ◌≡◌, Bool, true, false, cond, ◌&&◌, ◌==◌}
+use Rattle.onecopy.specs.Words.{Cmp, cmp, same, other}
 
 module _ {A : Type 0} where
   -- v is stored for transaction t at site i

@@ -1,6 +1,7 @@
 -- The claims of Statements.antt, proved: of every state that a run comes to from an accepted setup, and of what a run
 -- returns.
-use Rattle.onecopy.specs.Words.{ℕ, ◌+◌, ◌*◌, ◌-◌, ◌≤◌, ◌<◌, ◌≡◌, refl, sym, ◌∙◌, Bool, true, false, cond, ◌&&◌, or-true, ◌≢◌, ⊎_elim, List, [], ◌∷◌, ◌++◌, zero-add, arith, lt-ltb, ltb-true, eqb-true, eqb-false, not-true, has, none, idle, active, precommit, committed, aborted, status_at, place_at, txn_at, at_home, setup_answer, setup, scan_from, others, only, action_of, state_after, sent_by, run_answer, run, Message, Remote, Ready, Commit, Abort, Action, Create, BeginOperation, EndOperation, BeginCommit, EndCommit, LocalAbort, Receive, ExecuteRemote, Discard, Entry, Event, State, both_left, both_right, sites_fit, count_fits, in_none, total_same, total_smaller, has-only, has-others, site_stands, home_fits, scan-parts, scan-asks, scanned, scanning_first, doable, run-done, Cmp, cmp, clash, same, other, ◌==◌, nat_lt}
+use Rattle.std.specs.Prelude.{ℕ, ◌+◌, ◌*◌, ◌-◌, ◌≤◌, ◌<◌, ◌≡◌, refl, Bool, true, false, cond, ◌&&◌, ◌≢◌, List, [], ◌∷◌, ◌++◌, ◌==◌, nat_lt}
+use Rattle.onecopy.specs.Words.{sym, ◌∙◌, or-true, ⊎_elim, zero-add, arith, lt-ltb, ltb-true, eqb-true, eqb-false, not-true, has, none, idle, active, precommit, committed, aborted, status_at, place_at, txn_at, at_home, setup_answer, setup, scan_from, others, only, action_of, state_after, sent_by, run_answer, run, Message, Remote, Ready, Commit, Abort, Action, Create, BeginOperation, EndOperation, BeginCommit, EndCommit, LocalAbort, Receive, ExecuteRemote, Discard, Entry, Event, State, both_left, both_right, sites_fit, count_fits, in_none, total_same, total_smaller, has-only, has-others, site_stands, home_fits, scan-parts, scan-asks, scanned, scanning_first, doable, run-done, Cmp, cmp, clash, same, other}
 use Rattle.std.proofs.Common.{ap}
 use Rattle.protocol.specs.Channel.{lies}
 use Rattle.protocol.specs.Run.{events_of}

@@ -1,6 +1,7 @@
 -- The protocol as the invariant sees it: a state as tables by site, transaction and object, and the moves that an action
 -- is made of. Priorities occur nowhere.
-use Rattle.onecopy.specs.Words.{ℕ, ◌+◌, ◌<◌, ◌≡◌, Bool, true, false, cond, ◌&&◌, ◌||◌, not, ◌≢◌, List, [], ◌∷◌, ◌++◌, objects, idle, start, active, blocked, precommit, committed, aborted, ◌==◌, nat_lt}
+use Rattle.std.specs.Prelude.{ℕ, ◌+◌, ◌<◌, ◌≡◌, Bool, true, false, cond, ◌&&◌, ◌||◌, not, ◌≢◌, List, [], ◌∷◌, ◌++◌, ◌==◌, nat_lt}
+use Rattle.onecopy.specs.Words.{objects, idle, start, active, blocked, precommit, committed, aborted}
 use Rattle.onecopy.specs.Tables.{upd, anew, mark, more}
 
 -- by site and transaction: the messages on their way (a ready by the site that it comes from), the sites whose ready is

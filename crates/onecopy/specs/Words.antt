@@ -1,5 +1,4 @@
 -- The words that the proofs are written in: the library's, the protocol's and its laws'.
-pub use Rattle.std.specs.Prelude.{ℕ, ◌+◌, ◌≤◌, ◌<◌, zero, suc, ◌*◌, ◌-◌, ◌≡◌, refl, Bool, true, false, not, cond, ◌&&◌, ◌||◌, ◌≢◌, ◌⊎◌, List, [], ◌∷◌, ◌++◌, ◌==◌, nat_eq, nat_lt, length, slice_index_or, replicate, set}
 pub use Rattle.std.proofs.Common.{sym, ap, ◌∙◌, subst, ap₂, ⊎_elim, inl, inr, append-nil, append_assoc, add-zero, add_assoc, zero-add, arith, length-set, get_or-set_same, get_or-set_other, eqb-true, ltb-true, ltb-false, lt-ltb, eq-eqb, ne_eqb, le-ltb}
 pub use Rattle.std.proofs.Math.Path.{fun_ext}
 pub use Rattle.std.proofs.Math.Bool.{and-false, and_comm, and-true, or-false, and-or_distrib_right, or-true}

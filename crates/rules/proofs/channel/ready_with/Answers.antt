@@ -11,7 +11,12 @@ pub loop-t-preserved : goal.loop-t-preserved
 loop-t-preserved c = (
   search rules,
   search rules,
-  elim c.if-has.branch [ then-has w ↦ w.l-is ∙ each_again _ 0 _ _ _ _ c.loop-t.invariant.2 (omega arith) (rw (← c.has.ensures, w.if-has.true) w.with.ensures) | else-has w ↦ w.l-is ∙ each_passed _ 0 _ _ _ c.loop-t.invariant.2 (omega arith) (rw (← c.has.ensures, w.if-has.false)) ],
+  elim c.if-has.branch [
+    | then-has w ↦
+        w.l-is ∙ each_again _ 0 _ _ _ _ c.loop-t.invariant.2 (omega arith) (rw (← c.has.ensures, w.if-has.true) w.with.ensures)
+    | else-has w ↦
+        w.l-is ∙ each_passed _ 0 _ _ _ c.loop-t.invariant.2 (omega arith) (rw (← c.has.ensures, w.if-has.false))
+  ],
 )
 
 pub returns : goal.returns

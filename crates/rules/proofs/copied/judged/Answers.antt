@@ -1,4 +1,4 @@
--- The tests are those of the definition and in its order; `sites`, `count` and `homes` below are the places where one has held.
+-- The tests are those of the definition and in its order.
 use Rattle.std.proofs.Common.{arith}
 use Rattle.rules.proofs.Fresh.{holds, fails, few}
 use Rattle.rules.specs.Copied.{judged_by, judged_with, judged_of}

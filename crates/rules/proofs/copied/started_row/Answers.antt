@@ -17,7 +17,12 @@ pub loop-t-preserved : goal.loop-t-preserved
 unfolding row_to
 loop-t-preserved c = (
   omega arith,
-  elim c.if-x-i.branch [ then-x-i w ↦ w.status-is ∙ each_turned _ idle _ _ _ _ c.loop-t.invariant.1 (omega arith) (rw (eq-eqb _ _ w.if-x-i.true)) | else-x-i w ↦ w.status-is ∙ each_passed _ idle _ _ _ c.loop-t.invariant.1 (omega arith) (rw (ne_eqb _ _ w.if-x-i.false)) ],
+  elim c.if-x-i.branch [
+    | then-x-i w ↦
+        w.status-is ∙ each_turned _ idle _ _ _ _ c.loop-t.invariant.1 (omega arith) (rw (eq-eqb _ _ w.if-x-i.true))
+    | else-x-i w ↦
+        w.status-is ∙ each_passed _ idle _ _ _ c.loop-t.invariant.1 (omega arith) (rw (ne_eqb _ _ w.if-x-i.false))
+  ],
 )
 
 pub returns : goal.returns

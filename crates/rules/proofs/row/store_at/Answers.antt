@@ -14,7 +14,12 @@ loop-k-preserved c =
     let h = sym c.has.ensures in (
       omega arith,
       omega arith,
-      elim c.if-has.branch [ then-has w ↦ w.n-is ∙ each_turned _ 0 _ _ _ _ c.loop-k.invariant.2 (omega arith) (rw (h ∙ w.if-has.true)) | else-has w ↦ w.n-is ∙ each_passed _ 0 _ _ _ c.loop-k.invariant.2 (omega arith) (rw (h ∙ w.if-has.false)) ],
+      elim c.if-has.branch [
+        | then-has w ↦
+            w.n-is ∙ each_turned _ 0 _ _ _ _ c.loop-k.invariant.2 (omega arith) (rw (h ∙ w.if-has.true))
+        | else-has w ↦
+            w.n-is ∙ each_passed _ 0 _ _ _ c.loop-k.invariant.2 (omega arith) (rw (h ∙ w.if-has.false))
+      ],
     )
 
 pub returns : goal.returns
