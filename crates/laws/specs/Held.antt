@@ -22,11 +22,11 @@ module _ (y : Txn) (i v o : ℕ) (r : executes v ≡ true) where
   held_all =
       has-union (held_reads y i v) (held_writes y i v) o
       ∙ rw r (or_comm (has (cond (y.home == i) y.reads none) o) (has y.writes o))
-      ∙ ap (λ (b : Bool). has y.writes o || b) (at_home_lem (y.home == i))
+      ∙ ap (λ (b : Bool). has y.writes o || b) (held_at_home (y.home == i))
     where
-      at_home_lem : (b : Bool) → has (cond b y.reads none) o ≡ (b && has y.reads o)
-      at_home_lem true = refl
-      at_home_lem false = has-none o
+      held_at_home : (b : Bool) → has (cond b y.reads none) o ≡ (b && has y.reads o)
+      held_at_home true = refl
+      held_at_home false = has-none o
 
   -- where the pending operation of x does not clash with y, y holds no write of what is pending for reading ..
   pub clash_reads : (x : Txn) → clashes_with x y i v ≡ false → has x.pendingreads o ≡ true → has y.writes o ≡ false

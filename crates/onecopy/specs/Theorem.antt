@@ -126,8 +126,8 @@ module _ (s : State) (l : List ℕ) (costs : ℕ → ℕ) (r : Reached s l costs
         (view.net.abort j u) (view.net.missing j u) (view.net.queued j u) (view.net.spent j u)
     phase_of u j v b h e m =
         let k = is_other j m in
-        let at_home_lem : view.status (view.home u) u ≡ v = rw h (see i u v b e) in
-        rw at_home_lem at (r.good.phases u j k.0 (λ q. k.1 (q ∙ h)))
+        let at_its_home : view.status (view.home u) u ≡ v = rw h (see i u v b e) in
+        rw at_its_home at (r.good.phases u j k.0 (λ q. k.1 (q ∙ h)))
 
     -- abort goes to all other sites about one whose home is here: else, once it is sent, it would lie in its own home's
     -- channel

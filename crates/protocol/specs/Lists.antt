@@ -1,4 +1,4 @@
--- Lists by their places: what the definitions need besides the library's `get_or` and `set`.
+-- Lists by their places: what the definitions need besides the library's `slice_index_or` and `set`.
 use Rattle.std.specs.Prelude.{Bool, true, false, cond, ◌&&◌, ◌||◌, List, [], ◌∷◌, ℕ, zero, suc, ◌+◌, ◌==◌}
 use Rattle.sets.specs.Set.{has}
 

@@ -8,4 +8,5 @@ pub mod Room
 pub mod Tables
 pub mod Commas
 pub mod Wanted
+pub mod RoundTrip
 pub mod Decided

@@ -11,18 +11,13 @@ returns-then-b-lt48 c = below_digits c.loop-i.invariant (omega arith) (omega ari
 pub returns-then-b-gt57 : goal.returns-then-b-gt57
 returns-then-b-gt57 c = above_digits c.loop-i.invariant (omega arith) (omega arith)
 
-pub overflow_add-w : goal.overflow_add-w
-overflow_add-w c = omega (arith, c)
-
 pub returns-then-w-gt4294967295 : goal.returns-then-w-gt4294967295
 returns-then-w-gt4294967295 c =
-    too_large c.loop-i.invariant (omega arith) (omega arith) (omega arith)
-    (omega arith)
+    too_large c.loop-i.invariant (omega arith) (omega arith) (omega arith) (omega arith)
 
 pub loop-i-preserved : goal.loop-i-preserved
 loop-i-preserved c =
-    digit-more c.loop-i.invariant (omega arith) (omega arith) (omega arith)
-    (omega arith)
+    digit-more c.loop-i.invariant (omega arith) (omega arith) (omega arith) (omega arith)
 
 pub returns : goal.returns
 returns c = digits-ended c.loop-i.invariant (omega arith)

@@ -36,7 +36,9 @@ loop-u-preserved c =
         | else-executes w ↦
             w.them-is
             ∙ those_passed _ _ _ c.loop-u.invariant.1
-            (rw (← c.status_in-v.ensures) (apart (not (c.loop-u.u == c.args.t)) (txn_in c.args.xs c.args.t) (txn_in c.args.xs c.loop-u.u) c.args.i _ (b ∙ w.if-executes.false)))
+            (rw (← c.status_in-v.ensures)
+            (apart (not (c.loop-u.u == c.args.t)) (txn_in c.args.xs c.args.t) (txn_in c.args.xs c.loop-u.u) c.args.i _
+            (b ∙ w.if-executes.false)))
       ],
     )
 

@@ -1,4 +1,4 @@
--- The seven numbers are read where event_at has them.
+-- The seven numbers are read where the definition has them.
 use Rattle.std.proofs.Common.{refl}
 use Rattle.rules.specs.Events.{event_at}
 use Rattle.rules.proofs.events.event_at.Goals as goal

@@ -20,9 +20,12 @@ loop-u-preserved c = (
   omega arith,
   elim c.if-has-status_in.branch [
     | then-has-status_in w ↦
-        w.found-is ∙ those_turned _ _ _ _ (omega arith) c.loop-u.invariant.1 (rw (← c.status_in.ensures, ← c.has.ensures) w.if-has-status_in.true) w.with-found.ensures
+        w.found-is
+        ∙ those_turned _ _ _ _ (omega arith) c.loop-u.invariant.1
+        (rw (← c.status_in.ensures, ← c.has.ensures) w.if-has-status_in.true) w.with-found.ensures
     | else-has-status_in w ↦
-        w.found-is ∙ those_passed _ _ _ c.loop-u.invariant.1 (rw (← c.status_in.ensures, ← c.has.ensures) w.if-has-status_in.false)
+        w.found-is
+        ∙ those_passed _ _ _ c.loop-u.invariant.1 (rw (← c.status_in.ensures, ← c.has.ensures) w.if-has-status_in.false)
   ],
 )
 

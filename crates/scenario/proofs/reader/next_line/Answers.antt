@@ -32,14 +32,14 @@ unfolding next_by homes_by numbers_by bytes faulted sites_line
 returns-in-Sites c =
     value_turns _ _ _ _ _ _ _ _ _ Sites (bytes "sites=") _ (sites_line c.args.m) (λ n. c.args.homes.now)
     c.in-Sites.is (λ l. refl) (λ l. refl) (λ l. refl) (refl, refl)
-    c.value_of-next.ensures c.turned.ensures.0 (c.turned.ensures.1 ∙ c.sites_line.ensures) (refl) refl
+    c.value_of-next.ensures c.turned.ensures.0 (c.turned.ensures.1 ∙ c.sites_line.ensures) refl refl
 
 pub returns-in-Count : goal.returns-in-Count
 unfolding next_by homes_by numbers_by bytes faulted count_line
 returns-in-Count c =
     value_turns _ _ _ _ _ _ _ _ _ Count (bytes "transactions=") _ (count_line c.args.m) (λ n. c.args.homes.now)
     c.in-Count.is (λ l. refl) (λ l. refl) (λ l. refl) (refl, refl)
-    c.value_of-next-in-Count.ensures c.turned-in-Count.ensures.0 (c.turned-in-Count.ensures.1 ∙ c.count_line.ensures) (refl) refl
+    c.value_of-next-in-Count.ensures c.turned-in-Count.ensures.0 (c.turned-in-Count.ensures.1 ∙ c.count_line.ensures) refl refl
 
 pub returns-in-Home : goal.returns-in-Home
 unfolding next_by homes_by numbers_by bytes faulted home_line kept
@@ -53,14 +53,15 @@ unfolding next_by homes_by numbers_by bytes faulted priority_line kept
 returns-in-Priority c =
     value_turns _ _ _ _ _ _ _ _ _ Priority (bytes "priority=") _ (priority_line c.args.m) (kept c.args.homes.now (2 * c.args.m.done + 1))
     c.in-Priority.is (λ l. refl) (λ l. refl) (λ l. refl) (refl, refl)
-    c.value_of-next-in-Priority.ensures c.turned-in-Priority.ensures.0 (c.turned-in-Priority.ensures.1 ∙ c.priority_line.ensures) c.keep-in-Priority.ensures refl
+    c.value_of-next-in-Priority.ensures c.turned-in-Priority.ensures.0
+    (c.turned-in-Priority.ensures.1 ∙ c.priority_line.ensures) c.keep-in-Priority.ensures refl
 
 pub returns-in-Events : goal.returns-in-Events
 unfolding next_by homes_by numbers_by bytes faulted events_line
 returns-in-Events c =
     value_turns _ _ _ _ _ _ _ _ _ Events (bytes "events=") _ (events_line c.args.m) (λ n. c.args.homes.now)
     c.in-Events.is (λ l. refl) (λ l. refl) (λ l. refl) (refl, refl)
-    c.value_of-next-in-Events.ensures c.turned-in-Events.ensures.0 (c.turned-in-Events.ensures.1 ∙ c.events_line.ensures) (refl) refl
+    c.value_of-next-in-Events.ensures c.turned-in-Events.ensures.0 (c.turned-in-Events.ensures.1 ∙ c.events_line.ensures) refl refl
 
 pub returns-in-Event : goal.returns-in-Event
 unfolding bytes
