@@ -4,8 +4,7 @@ use Rattle.std.specs.Prelude.{ℕ, ◌+◌, ◌*◌, ◌-◌, ◌≤◌, ◌<◌
 use Rattle.onecopy.specs.Words.{sym, ◌∙◌, or-true, ⊎_elim, zero-add, arith, lt-ltb, ltb-true, eqb-true, eqb-false, not-true, has, none, idle, active, precommit, committed, aborted, status_at, place_at, txn_at, at_home, setup_answer, setup, scan_from, others, only, action_of, state_after, sent_by, run_answer, run, Message, Remote, Ready, Commit, Abort, Action, Create, BeginOperation, EndOperation, BeginCommit, EndCommit, LocalAbort, Receive, ExecuteRemote, Discard, Entry, Event, State, both_left, both_right, sites_fit, count_fits, in_none, total_same, total_smaller, has-only, has-others, site_stands, home_fits, scan-parts, scan-asks, scanned, scanning_first, doable, run-done, Cmp, cmp, clash, same, other}
 use Rattle.std.proofs.Common.{ap}
 use Rattle.protocol.specs.Channel.{lies}
-use Rattle.protocol.specs.Run.{events_of}
-use Rattle.protocol.specs.declared.Ran.{Ran}
+use Rattle.protocol.specs.Run.{Ran, events_of}
 use Rattle.laws.specs.Tests.{Same, same?}
 use Rattle.laws.specs.Tests as tests
 use Rattle.laws.specs.Enabled.{run-refused}

@@ -11,7 +11,6 @@ use Rattle.protocol.specs.declared.Action.{Action}
 use Rattle.protocol.specs.declared.Action.TheVariants.{Create, BeginOperation, EndOperation, BeginCommit, EndCommit, LocalAbort, Receive, ExecuteRemote, Discard}
 use Rattle.protocol.specs.declared.Event.{Event}
 use Rattle.protocol.specs.declared.State.{State}
-use Rattle.protocol.specs.declared.Stepped.{Stepped}
 
 -- "1 remote, 2 ready (with the site it came from), 3 commit, 4 abort"; check 5 refuses any other kind
 unfoldable pub message_of : ℕ → ℕ → Message
@@ -178,6 +177,12 @@ checks s e = given 1 (not (in_range s)) ∷ checks_in_range s e
 unfoldable pub answer : State → Event → ℕ
 answer s e = first_of (checks s e)
 
+-- what an event returns: its answer number, how many messages were sent, and the state
+pub record Stepped : Type 0 where
+  pub answer : ℕ
+  pub sent : ℕ
+  pub state : State
+
 -- "A refused event returns only its number and an unchanged state"
 abbrev pub refused : ℕ → State → Stepped
 refused n s = record { answer = n; sent = 0; state = s }
@@ -190,6 +195,6 @@ done s e = record {
   state = (effect (action_of e) s e.site e.txn).state;
 }
 
--- what an event returns
+-- what the event e returns in the state s
 unfoldable pub step : State → Event → Stepped
 step s e = cond (answer s e == 0) (done s e) (refused (answer s e) s)

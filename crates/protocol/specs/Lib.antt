@@ -10,6 +10,7 @@ pub mod Scan
 pub mod Figure
 pub mod Answer
 pub mod Run
+pub mod Refusals
 pub mod Cases
 pub mod Marked
 pub mod Shortcuts

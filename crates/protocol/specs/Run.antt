@@ -6,7 +6,6 @@ use Rattle.protocol.specs.Range.{in_range}
 use Rattle.protocol.specs.Answer.{step}
 use Rattle.protocol.specs.declared.Event.{Event}
 use Rattle.protocol.specs.declared.State.{State}
-use Rattle.protocol.specs.declared.Ran.{Ran}
 
 -- "An event has seven fields: action, site, transaction, kind, from, reads, writes": a list of numbers as events, seven
 -- numbers an event. A tail of fewer than seven is no event; that is our reading.
@@ -47,7 +46,13 @@ run_checks s es room =
 unfoldable pub run_answer : State → List Event → ℕ → ℕ
 run_answer s es room = first_of (run_checks s es room)
 
--- what a run returns: "When one of these refuses, the state is returned as given, the message sum is 0"
+-- what a run returns besides the answers that it writes: its answer number, "the sum over its events" and the state
+pub record Ran : Type 0 where
+  pub answer : ℕ
+  pub sent : ℕ
+  pub state : State
+
+-- "When one of these refuses, the state is returned as given, the message sum is 0"
 unfoldable pub run : State → List Event → ℕ → Ran
 run s es room =
     cond (run_answer s es room == 0) (record { answer = 0; sent = sent_by s es; state = state_after s es })

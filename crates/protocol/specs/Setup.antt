@@ -8,7 +8,6 @@ use Rattle.protocol.specs.declared.Entry.{Entry}
 use Rattle.protocol.specs.declared.Row.{Row}
 use Rattle.protocol.specs.declared.Txn.{Txn}
 use Rattle.protocol.specs.declared.State.{State}
-use Rattle.protocol.specs.declared.Started.{Started}
 
 -- "1 to 8 sites; 1 to 32 transactions": what setup demands of the counts
 unfoldable pub sites_fine : ℕ → Bool
@@ -73,6 +72,11 @@ setup_checks sites es =
 -- 0 where setup accepts, else the first number that applies
 unfoldable pub setup_answer : ℕ → List Entry → ℕ
 setup_answer sites es = first_of (setup_checks sites es)
+
+-- what a setup returns: its answer number and the state
+pub record Started : Type 0 where
+  pub answer : ℕ
+  pub state : State
 
 -- "A refused setup returns its number and the empty state"
 unfoldable pub setup : ℕ → List Entry → Started

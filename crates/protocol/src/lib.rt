@@ -1,6 +1,9 @@
-// What document 01 and Figure 2 speak of, as types by value. Nothing runs here: the definitions over these types stand
-// in specs/, the code that does what they say in the crate rules.
+// What document 01 and Figure 2 speak of, as types by value. The definitions over these types stand in specs/, the code
+// that does what they say in the crate rules; here runs only the number of a refusal.
 #![tactic(auto)]
+
+ghost use Rattle.std.specs.Prelude.{◌≡◌};
+ghost use Rattle.protocol.specs.Refusals.{number_of};
 
 // How many sites a state has room for: the most that a setup may ask for. The definitions call it max_sites.
 pub const SITES: usize = 8;
@@ -20,44 +23,54 @@ pub const COMMITTED: u8 = 5;
 
 pub const ABORTED: u8 = 6;
 
-// The answers of an event, in the order of the checks.
-pub const ACCEPTED: u32 = 0;
+// Why an event, a setup or a run is refused, in the order of document 01's table of answer numbers. What a text shows of
+// it is the number.
+#[derive(Clone, Copy, Debug, PartialEq, Eq)]
+pub enum Refusal {
+    OutOfRange,
+    NoAction,
+    NoSite,
+    NoTransaction,
+    IllFilled,
+    WrongHome,
+    WrongStatus,
+    WrongMissing,
+    NoMessage,
+    LockClash,
+    NoScan,
+    WrongSites,
+    WrongCount,
+    NoHome,
+    EqualPriorities,
+    TooManyEvents,
+    NoRoom,
+}
 
-pub const OUT_OF_RANGE: u32 = 1;
+impl From<Refusal> for u8 {
+    ghost from_gives = { λ r n. n ≡ number_of r };
 
-pub const NO_ACTION: u32 = 2;
-
-pub const NO_SITE: u32 = 3;
-
-pub const NO_TRANSACTION: u32 = 4;
-
-pub const ILL_FILLED: u32 = 5;
-
-pub const WRONG_HOME: u32 = 6;
-
-pub const WRONG_STATUS: u32 = 7;
-
-pub const WRONG_MISSING: u32 = 8;
-
-pub const NO_MESSAGE: u32 = 9;
-
-pub const LOCK_CLASH: u32 = 10;
-
-pub const NO_SCAN: u32 = 11;
-
-// The refusals of a setup.
-pub const WRONG_SITES: u32 = 21;
-
-pub const WRONG_COUNT: u32 = 22;
-
-pub const NO_HOME: u32 = 23;
-
-pub const EQUAL_PRIORITIES: u32 = 25;
-
-// The refusals of a run, which may also be out of range.
-pub const TOO_MANY_EVENTS: u32 = 31;
-
-pub const NO_ROOM: u32 = 32;
+    fn from(r: Refusal) -> u8 {
+        match r {
+            Refusal::OutOfRange => 1,
+            Refusal::NoAction => 2,
+            Refusal::NoSite => 3,
+            Refusal::NoTransaction => 4,
+            Refusal::IllFilled => 5,
+            Refusal::WrongHome => 6,
+            Refusal::WrongStatus => 7,
+            Refusal::WrongMissing => 8,
+            Refusal::NoMessage => 9,
+            Refusal::LockClash => 10,
+            Refusal::NoScan => 11,
+            Refusal::WrongSites => 21,
+            Refusal::WrongCount => 22,
+            Refusal::NoHome => 23,
+            Refusal::EqualPriorities => 25,
+            Refusal::TooManyEvents => 31,
+            Refusal::NoRoom => 32,
+        }
+    }
+}
 
 // One entry of the lent table of transactions: home site and priority.
 #[derive(Clone, Copy)]
@@ -124,10 +137,11 @@ pub struct State {
     pub txns: [Txn; 32],
 }
 
-// What a setup gives: 0 and the fresh state, or the number of its refusal and the empty state.
+// What a setup, an event or a run gives: what it did, or why it is refused, and the state that it leaves. A setup that is
+// done says nothing more, an event or a run how many messages were sent.
 #[derive(Clone, Copy)]
-pub struct Started {
-    pub answer: u32,
+pub struct Answered<T> {
+    pub outcome: Result<T, Refusal>,
     pub state: State,
 }
 
@@ -183,21 +197,4 @@ pub struct Scan {
 pub struct Done {
     pub state: State,
     pub sent: u32,
-}
-
-// What an event returns.
-#[derive(Clone, Copy)]
-pub struct Stepped {
-    pub answer: u32,
-    pub sent: u32,
-    pub state: State,
-}
-
-// What a run returns besides the answers that it writes: 0 or the number of its refusal, the sum of the messages sent,
-// and the state.
-#[derive(Clone, Copy)]
-pub struct Ran {
-    pub answer: u32,
-    pub sent: u32,
-    pub state: State,
 }
