@@ -5,6 +5,7 @@ ghost use Rattle.rules.specs.Refusal.{asked_by, misplaced_by, unless, receive_re
 
 use crate::channel::lies;
 use crate::row::status_in;
+use crate::slot::Slot;
 use crate::{Asked, Here};
 use protocol::{
     ABORTED, ACCEPTED, ACTIVE, Action, BLOCKED, COMMITTED, Event, IDLE, ILL_FILLED, LOCK_CLASH,
@@ -142,8 +143,7 @@ fn unless(b: bool, n: u32, m: u32) -> u32
 }
 
 // What a receive asks.
-fn receive_refusal(m: Message, h: Here, t: usize) -> u32
-    requires { t < 32 }
+fn receive_refusal(m: Message, h: Here, t: Slot) -> u32
     ensures { result ≡ receive_refusal m h t }
 {
     let row = h.row;
@@ -166,8 +166,7 @@ fn receive_refusal(m: Message, h: Here, t: usize) -> u32
 
 // What the action itself asks of transaction t: 7 to 11, or 0 where it is enabled. An end of operation is told whether it
 // meets a lock clash at home.
-pub(crate) fn refusal(a: Action, clash: bool, t: usize, h: Here) -> u32
-    requires { t < 32 }
+pub(crate) fn refusal(a: Action, clash: bool, t: Slot, h: Here) -> u32
     ensures { result ≡ refusal_of a clash t h }
 {
     let row = h.row;

@@ -4,6 +4,7 @@ ghost use Rattle.rules.specs.Turn.{scan_of, asks_table, untold, told_of};
 
 use crate::database::clash;
 use crate::scan::scan_all;
+use crate::slot::Slot;
 use crate::{Here, Told};
 use protocol::{Event, Scan, Txn};
 
@@ -39,8 +40,8 @@ pub(crate) fn untold(h: Here) -> Told
 }
 
 // What the first n transactions tell an event that asks: a scan, or whether its end of operation clashes.
-pub(crate) fn consulted(e: Event, n: usize, xs: [Txn; 32], i: usize, t: usize, h: Here) -> Told
-    requires { (asks_table e i h ≡ true) × (n ≤ 32) × (t < 32) }
+pub(crate) fn consulted(e: Event, n: usize, xs: [Txn; 32], i: usize, t: Slot, h: Here) -> Told
+    requires { (asks_table e i h ≡ true) × (n ≤ 32) }
     ensures { result ≡ told_of e n xs i t h }
 {
     let first = begun(h);

@@ -5,50 +5,49 @@ ghost use Rattle.protocol.specs.State.{with_channel};
 ghost use Rattle.rules.specs.Turn.{readied};
 ghost use Rattle.protocol.specs.Channel.{lies, taken, put, received, ready_with, delivered, homed_at};
 
+use crate::slot::Slot;
 use protocol::{Channel, Message, Place, SITES, Txn};
 
 // Does the message about t lie in the channel?
-pub(crate) fn lies(m: Message, t: usize, c: Channel) -> bool
-    requires { t < 32 }
+pub(crate) fn lies(m: Message, t: Slot, c: Channel) -> bool
     ensures { result ≡ lies m t c }
 {
     match m {
-        Message::Remote => sets::has(c.remote, t),
+        Message::Remote => sets::has(c.remote, t.index()),
         Message::Ready(k) => {
             let ready = c.ready;
-            sets::has(ready[t], k as usize)
+            sets::has(ready[t.index()], k as usize)
         }
-        Message::Commit => sets::has(c.commit, t),
-        Message::Abort => sets::has(c.abort, t),
+        Message::Commit => sets::has(c.commit, t.index()),
+        Message::Abort => sets::has(c.abort, t.index()),
     }
 }
 
 // The channel without the message about t.
-pub(crate) fn taken(m: Message, t: usize, c: Channel) -> Channel
-    requires { t < 32 }
+pub(crate) fn taken(m: Message, t: Slot, c: Channel) -> Channel
     ensures { result ≡ taken m t c }
 {
     let mut d = c;
     match m {
         Message::Remote => {
-            d.remote = sets::without(c.remote, t);
+            d.remote = sets::without(c.remote, t.index());
         }
         Message::Ready(k) => {
-            d.ready[t] = sets::without(d.ready[t], k as usize);
+            let at = t.index();
+            d.ready[at] = sets::without(d.ready[at], k as usize);
         }
         Message::Commit => {
-            d.commit = sets::without(c.commit, t);
+            d.commit = sets::without(c.commit, t.index());
         }
         Message::Abort => {
-            d.abort = sets::without(c.abort, t);
+            d.abort = sets::without(c.abort, t.index());
         }
     }
     d
 }
 
 // Site p without the message about t.
-pub(crate) fn received(m: Message, t: usize, p: Place) -> Place
-    requires { t < 32 }
+pub(crate) fn received(m: Message, t: Slot, p: Place) -> Place
     ensures { result ≡ received m t p }
 {
     let c = p.channel;
@@ -132,12 +131,12 @@ fn multicast(m: Message, sites: u32, ts: u32, ps: [Place; SITES]) -> [Place; SIT
 }
 
 // Site p with a ready from site i about t in its channel.
-fn readied(i: usize, t: usize, p: Place) -> Place
-    requires { t < 32 }
+fn readied(i: usize, t: Slot, p: Place) -> Place
     ensures { result ≡ with_channel p (readied i t p.channel) }
 {
     let mut c = p.channel;
-    c.ready[t] = sets::with(c.ready[t], i);
+    let at = t.index();
+    c.ready[at] = sets::with(c.ready[at], i);
     let mut q = p;
     q.channel = c;
     q
@@ -154,7 +153,7 @@ fn ready_home(i: usize, ts: u32, xs: [Txn; 32], ps: [Place; SITES]) -> [Place; S
             let x = xs[t];
             let j = x.home as usize;
             if j < SITES {
-                qs[j] = readied(i, t, qs[j]);
+                qs[j] = readied(i, Slot::at(t), qs[j]);
             }
         }
         t = t + 1;

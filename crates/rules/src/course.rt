@@ -7,6 +7,7 @@ use crate::Here;
 use crate::asking::{asks_table, consulted, untold};
 use crate::channel::posted;
 use crate::events::event_at;
+use crate::slot::Slot;
 use crate::stepping::{index, turn_of};
 use protocol::{ACCEPTED, Ran, State};
 
@@ -41,7 +42,7 @@ pub(crate) fn performed(s: State, events: &[u32], answers: &mut [u8]) -> Ran
         };
         let told = if asks_table(e, i, here) {
             let xs = state.txns;
-            consulted(e, state.count as usize, xs, i, t, here)
+            consulted(e, state.count as usize, xs, i, Slot::at(t), here)
         } else {
             untold(here)
         };

@@ -4,6 +4,7 @@ ghost use Rattle.std.specs.Prelude.{◌≡◌, ℕ, ◌<◌, ◌≤◌, slice_in
 ghost use Rattle.protocol.specs.Database.{executes, held_reads, held_writes, held, clashes_with, conflicts_with, clash, conflicts, noted, ended, woken, appended, stored};
 
 use crate::row::{status_in, store_at};
+use crate::slot::Slot;
 use protocol::{ACTIVE, BLOCKED, Log, PRE_COMMIT, Place, Row, Txn};
 
 // Does a transaction of status v execute at the site?
@@ -54,32 +55,32 @@ pub(crate) fn conflicts_with(x: Txn, y: Txn, i: usize, v: u8) -> bool
 }
 
 // Does the pending operation of t meet a lock clash at site i, among the first n transactions?
-pub(crate) fn clash(n: usize, xs: [Txn; 32], i: usize, r: Row, t: usize) -> bool
-    requires { (n ≤ 32) × (t < 32) }
+pub(crate) fn clash(n: usize, xs: [Txn; 32], i: usize, r: Row, t: Slot) -> bool
+    requires { n ≤ 32 }
     ensures { result ≡ clash n xs i r t }
 {
-    let x = xs[t];
+    let x = xs[t.index()];
     let mut found = false;
     let mut u = 0usize;
     while u < n {
-        found = found | ((u != t) & clashes_with(x, xs[u], i, status_in(r, u)));
+        found = found | ((u != t.index()) & clashes_with(x, xs[u], i, status_in(r, Slot::at(u))));
         u = u + 1;
     }
     found
 }
 
 // The conflicts of t at site i, among the first n transactions.
-pub(crate) fn conflicts(n: usize, xs: [Txn; 32], i: usize, r: Row, t: usize) -> u32
-    requires { (n ≤ 32) × (t < 32) }
+pub(crate) fn conflicts(n: usize, xs: [Txn; 32], i: usize, r: Row, t: Slot) -> u32
+    requires { n ≤ 32 }
     ensures { result ≡ conflicts n xs i r t }
 {
-    let x = xs[t];
+    let x = xs[t.index()];
     let mut them = 0u32;
     let mut u = 0usize;
     while u < n {
-        let v = status_in(r, u);
+        let v = status_in(r, Slot::at(u));
         if executes(v) {
-            if (u != t) & conflicts_with(x, xs[u], i, v) {
+            if (u != t.index()) & conflicts_with(x, xs[u], i, v) {
                 them = sets::with(them, u);
             }
         }
@@ -131,15 +132,14 @@ pub(crate) fn woken(p: Place) -> Place
 }
 
 // The log with t at its end.
-pub(crate) fn appended(l: Log, t: usize) -> Log
-    requires { t < 32 }
+pub(crate) fn appended(l: Log, t: Slot) -> Log
     ensures { result ≡ appended l t }
 {
     let n = l.length;
     if n < 32 {
         let at = n as usize;
         let mut m = l;
-        m.entries[at] = t as u8;
+        m.entries[at] = t.index() as u8;
         m.length = n + 1;
         m
     } else {
@@ -148,14 +148,13 @@ pub(crate) fn appended(l: Log, t: usize) -> Log
 }
 
 // Site p once t, which writes these objects, has committed there.
-pub(crate) fn stored(p: Place, t: usize, writes: u32) -> Place
-    requires { t < 32 }
+pub(crate) fn stored(p: Place, t: Slot, writes: u32) -> Place
     ensures { result ≡ stored p t writes }
 {
     let old = p.log;
     let log = appended(old, t);
     let before = p.versions;
-    let versions = store_at(writes, (t + 1) as u8, before);
+    let versions = store_at(writes, (t.index() + 1) as u8, before);
     let mut q = p;
     q.log = log;
     q.versions = versions;

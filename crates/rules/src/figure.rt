@@ -6,12 +6,12 @@ ghost use Rattle.rules.specs.Turn.{here_status, quiet, telling, begins_operation
 use crate::channel::received;
 use crate::database::{ended, stored, woken};
 use crate::row::row_with;
+use crate::slot::Slot;
 use crate::{Here, Turn};
 use protocol::{ABORTED, ACCEPTED, ACTIVE, Action, BLOCKED, COMMITTED, Message, PRE_COMMIT, Scan};
 
 // What stands here, with the status v for transaction t.
-fn with_status(h: Here, t: usize, v: u8) -> Here
-    requires { t < 32 }
+fn with_status(h: Here, t: Slot, v: u8) -> Here
     ensures { result ≡ here_status h t v }
 {
     let old = h.row;
@@ -36,7 +36,7 @@ pub(crate) fn quiet(n: u32, here: Here) -> Turn
 }
 
 // What an event leaves that sends the message about t to these sites.
-fn telling(message: Message, sites: u32, t: usize, here: Here) -> Turn
+fn telling(message: Message, sites: u32, t: Slot, here: Here) -> Turn
     ensures { result ≡ telling message sites t here }
 {
     Turn {
@@ -44,14 +44,13 @@ fn telling(message: Message, sites: u32, t: usize, here: Here) -> Turn
         sent: sets::count(sites),
         here,
         message,
-        about: sets::with(0, t),
+        about: sets::with(0, t.index()),
         readies: 0,
     }
 }
 
 // The pending sets are those of the event, and t is blocked.
-fn begin_operation(h: Here, t: usize, reads: u32, writes: u32) -> Turn
-    requires { t < 32 }
+fn begin_operation(h: Here, t: Slot, reads: u32, writes: u32) -> Turn
     ensures { result ≡ begins_operation h t reads writes }
 {
     let mut x = h.txn;
@@ -63,8 +62,8 @@ fn begin_operation(h: Here, t: usize, reads: u32, writes: u32) -> Turn
 }
 
 // At home t takes in its pending sets and is active again; away from home it is in pre_commit.
-fn end_operation(h: Here, i: usize, t: usize) -> Turn
-    requires { (t < 32) × ((o : ℕ) → o < 32 → slice_index_or h.place.versions o 0 < 255) }
+fn end_operation(h: Here, i: usize, t: Slot) -> Turn
+    requires { (o : ℕ) → o < 32 → slice_index_or h.place.versions o 0 < 255 }
     ensures { result ≡ ends_operation h i t }
 {
     let x = h.txn;
@@ -80,8 +79,7 @@ fn end_operation(h: Here, i: usize, t: usize) -> Turn
 }
 
 // t is in pre_commit, a ready is missing from each other site, and remote goes to all of them.
-fn begin_commit(h: Here, others: u32, t: usize) -> Turn
-    requires { t < 32 }
+fn begin_commit(h: Here, others: u32, t: Slot) -> Turn
     ensures { result ≡ begins_commit h others t }
 {
     let mut x = h.txn;
@@ -92,8 +90,7 @@ fn begin_commit(h: Here, others: u32, t: usize) -> Turn
 }
 
 // t commits here, and commit goes to all other sites.
-fn end_commit(h: Here, others: u32, t: usize) -> Turn
-    requires { t < 32 }
+fn end_commit(h: Here, others: u32, t: Slot) -> Turn
     ensures { result ≡ ends_commit h others t }
 {
     let x = h.txn;
@@ -105,8 +102,7 @@ fn end_commit(h: Here, others: u32, t: usize) -> Turn
 }
 
 // t is aborted, and *remove* is true.
-fn local_abort(h: Here, t: usize) -> Turn
-    requires { t < 32 }
+fn local_abort(h: Here, t: Slot) -> Turn
     ensures { result ≡ aborts_here h t }
 {
     let mut p = h.place;
@@ -117,13 +113,12 @@ fn local_abort(h: Here, t: usize) -> Turn
 }
 
 // Remote is taken, and t is queued; *remove* is true.
-fn receive_remote(h: Here, t: usize) -> Turn
-    requires { t < 32 }
+fn receive_remote(h: Here, t: Slot) -> Turn
     ensures { result ≡ receives Message.Remote h t }
 {
     let old = h.place;
     let mut p = received(Message::Remote, t, old);
-    p.queue = sets::with(p.queue, t);
+    p.queue = sets::with(p.queue, t.index());
     p.remove = true;
     let mut n = h;
     n.place = p;
@@ -131,8 +126,7 @@ fn receive_remote(h: Here, t: usize) -> Turn
 }
 
 // Ready is taken, and its sender leaves the missing set.
-fn receive_ready(h: Here, t: usize, from: u32) -> Turn
-    requires { t < 32 }
+fn receive_ready(h: Here, t: Slot, from: u32) -> Turn
     ensures { result ≡ receives (Message.Ready from) h t }
 {
     let old = h.place;
@@ -146,8 +140,7 @@ fn receive_ready(h: Here, t: usize, from: u32) -> Turn
 }
 
 // Commit is taken, and t commits here.
-fn receive_commit(h: Here, t: usize) -> Turn
-    requires { t < 32 }
+fn receive_commit(h: Here, t: Slot) -> Turn
     ensures { result ≡ receives Message.Commit h t }
 {
     let x = h.txn;
@@ -159,13 +152,12 @@ fn receive_commit(h: Here, t: usize) -> Turn
 }
 
 // Abort is taken, and t is aborted and out of the queue; *remove* is true if the queue is not empty.
-fn receive_abort(h: Here, t: usize) -> Turn
-    requires { t < 32 }
+fn receive_abort(h: Here, t: Slot) -> Turn
     ensures { result ≡ receives Message.Abort h t }
 {
     let old = h.place;
     let mut p = received(Message::Abort, t, old);
-    p.queue = sets::without(p.queue, t);
+    p.queue = sets::without(p.queue, t.index());
     let q = woken(p);
     let mut n = with_status(h, t, ABORTED);
     n.place = q;
@@ -194,8 +186,7 @@ fn scan_leaves(h: Here, others: u32, c: Scan) -> Turn
 }
 
 // The message is taken, and nothing else changes: t has been aborted.
-fn discard(h: Here, t: usize, m: Message) -> Turn
-    requires { t < 32 }
+fn discard(h: Here, t: Slot, m: Message) -> Turn
     ensures { result ≡ discards m h t }
 {
     let old = h.place;
@@ -206,8 +197,7 @@ fn discard(h: Here, t: usize, m: Message) -> Turn
 }
 
 // The message about t is received.
-fn receive(m: Message, h: Here, t: usize) -> Turn
-    requires { t < 32 }
+fn receive(m: Message, h: Here, t: Slot) -> Turn
     ensures { result ≡ receives m h t }
 {
     match m {
@@ -219,8 +209,8 @@ fn receive(m: Message, h: Here, t: usize) -> Turn
 }
 
 // What the action does at site i to transaction t, where `scan` is the scan of the site as it ends.
-pub(crate) fn effect(a: Action, h: Here, others: u32, scan: Scan, i: usize, t: usize) -> Turn
-    requires { (t < 32) × ((o : ℕ) → o < 32 → slice_index_or h.place.versions o 0 < 255) }
+pub(crate) fn effect(a: Action, h: Here, others: u32, scan: Scan, i: usize, t: Slot) -> Turn
+    requires { (o : ℕ) → o < 32 → slice_index_or h.place.versions o 0 < 255 }
     ensures { result ≡ turn_by a h others scan i t }
 {
     match a {

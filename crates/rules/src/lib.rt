@@ -20,6 +20,7 @@ pub(crate) mod order;
 pub(crate) mod range;
 pub(crate) mod row;
 pub(crate) mod scan;
+pub(crate) mod slot;
 pub(crate) mod stepping;
 pub(crate) mod table;
 

@@ -3,24 +3,23 @@ ghost use Rattle.std.specs.Prelude.{◌≡◌, ◌<◌};
 ghost use Rattle.protocol.specs.State.{status_in, row_with};
 ghost use Rattle.protocol.specs.Lists.{store_at};
 
+use crate::slot::Slot;
 use protocol::Row;
 
 // The status of transaction t.
-pub(crate) fn status_in(r: Row, t: usize) -> u8
-    requires { t < 32 }
+pub(crate) fn status_in(r: Row, t: Slot) -> u8
     ensures { result ≡ status_in r t }
 {
     let status = r.status;
-    status[t]
+    status[t.index()]
 }
 
 // The row with the status v for transaction t.
-pub(crate) fn row_with(r: Row, t: usize, v: u8) -> Row
-    requires { t < 32 }
+pub(crate) fn row_with(r: Row, t: Slot, v: u8) -> Row
     ensures { result ≡ row_with r t v }
 {
     let mut n = r;
-    n.status[t] = v;
+    n.status[t.index()] = v;
     n
 }
 

@@ -5,6 +5,7 @@ ghost use Rattle.protocol.specs.Scan.{makes_wait, waits, asked, submits, must_wa
 use crate::database::conflicts;
 use crate::order::{highest, outranks};
 use crate::row::{row_with, status_in, store_at};
+use crate::slot::Slot;
 use protocol::{ABORTED, BLOCKED, PRE_COMMIT, Row, Scan, Txn};
 
 // Does y, a conflict of x that has status v at site i, make x wait?
@@ -15,27 +16,27 @@ fn makes_wait(x: Txn, y: Txn, i: usize, v: u8) -> bool
 }
 
 // Does one of them, the conflicts of t, make t wait?
-fn must_wait(n: usize, xs: [Txn; 32], i: usize, r: Row, t: usize, them: u32) -> bool
-    requires { (n ≤ 32) × (t < 32) }
+fn must_wait(n: usize, xs: [Txn; 32], i: usize, r: Row, t: Slot, them: u32) -> bool
+    requires { n ≤ 32 }
     ensures { result ≡ must_wait n xs i r t them }
 {
-    let x = xs[t];
+    let x = xs[t.index()];
     let mut found = false;
     let mut u = 0usize;
     while u < n {
-        found = found | (sets::has(them, u) & makes_wait(x, xs[u], i, status_in(r, u)));
+        found = found | (sets::has(them, u) & makes_wait(x, xs[u], i, status_in(r, Slot::at(u))));
         u = u + 1;
     }
     found
 }
 
 // t waits on.
-fn waits(t: usize, c: Scan) -> Scan
+fn waits(t: Slot, c: Scan) -> Scan
     ensures { result ≡ waits t c }
 {
     let mut d = c;
-    d.rest = sets::without(c.rest, t);
-    d.waiting = sets::with(c.waiting, t);
+    d.rest = sets::without(c.rest, t.index());
+    d.waiting = sets::with(c.waiting, t.index());
     d
 }
 
@@ -50,7 +51,7 @@ fn asked(n: usize, r: Row, them: u32) -> u32
     let mut found = 0u32;
     let mut u = 0usize;
     while u < n {
-        if sets::has(them, u) & (status_in(r, u) == PRE_COMMIT) {
+        if sets::has(them, u) & (status_in(r, Slot::at(u)) == PRE_COMMIT) {
             found = sets::with(found, u);
         }
         u = u + 1;
@@ -59,26 +60,26 @@ fn asked(n: usize, r: Row, them: u32) -> u32
 }
 
 // t is submitted: its conflicts are aborted, ready goes home, and it is blocked.
-fn submits(n: usize, t: usize, them: u32, c: Scan) -> Scan
-    requires { (n ≤ 32) × (t < 32) }
+fn submits(n: usize, t: Slot, them: u32, c: Scan) -> Scan
+    requires { n ≤ 32 }
     ensures { result ≡ submits n t them c }
 {
     let row = c.row;
     let before = row.status;
     let status = store_at(them, ABORTED, before);
     let after = row_with(Row { status }, t, BLOCKED);
-    let rest = sets::without(c.rest, t);
+    let rest = sets::without(c.rest, t.index());
     let mut d = c;
     d.rest = rest;
     d.row = after;
     d.aborts = sets::union(c.aborts, asked(n, row, them));
-    d.readies = sets::with(c.readies, t);
+    d.readies = sets::with(c.readies, t.index());
     d
 }
 
 // What happens to one queued transaction whose conflicts are known: without any it is submitted at once.
-fn scan_with(n: usize, xs: [Txn; 32], i: usize, t: usize, them: u32, c: Scan) -> Scan
-    requires { (n ≤ 32) × (t < 32) }
+fn scan_with(n: usize, xs: [Txn; 32], i: usize, t: Slot, them: u32, c: Scan) -> Scan
+    requires { n ≤ 32 }
     ensures { result ≡ scan_with n xs i t them c }
 {
     let row = c.row;
@@ -93,8 +94,8 @@ fn scan_with(n: usize, xs: [Txn; 32], i: usize, t: usize, them: u32, c: Scan) ->
 }
 
 // What happens to one queued transaction.
-fn scan_one(n: usize, xs: [Txn; 32], i: usize, t: usize, c: Scan) -> Scan
-    requires { (n ≤ 32) × (t < 32) }
+fn scan_one(n: usize, xs: [Txn; 32], i: usize, t: Slot, c: Scan) -> Scan
+    requires { n ≤ 32 }
     ensures { result ≡ scan_one n xs i t c }
 {
     let row = c.row;
@@ -111,7 +112,7 @@ pub(crate) fn scan_all(n: usize, xs: [Txn; 32], i: usize, c: Scan) -> Scan
     if sets::is_empty(c.rest) {
         c
     } else {
-        let t = highest(xs, c.rest);
+        let t = Slot::at(highest(xs, c.rest));
         let next = scan_one(n, xs, i, t, c);
         if sets::is_empty(next.rest) {
             next

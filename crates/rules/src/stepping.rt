@@ -5,6 +5,7 @@ ghost use Rattle.rules.specs.Turn.{index_of, turn_for, turn_of};
 
 use crate::answer::{asked, misplaced, refusal};
 use crate::figure::{effect, quiet};
+use crate::slot::Slot;
 use crate::{Asked, Here, Told, Turn};
 use protocol::{ACCEPTED, Action, Event, NO_ACTION};
 
@@ -27,7 +28,7 @@ fn tried(a: Action, e: Event, sites: u32, count: u32, told: Told, h: Here) -> Tu
         return quiet(k, h);
     }
     let i = e.site as usize;
-    let t = e.txn as usize;
+    let t = Slot::at(e.txn as usize);
     let j = refusal(a, told.clash, t, h);
     if j != ACCEPTED {
         return quiet(j, h);
