@@ -59,7 +59,7 @@ pub fn overlap(a: u32, b: u32) -> bool
 pub fn first(n: usize) -> u32
     ensures { result ≡ first n }
 {
-    if n < 32 { (1 << n) - 1 } else { 4294967295 }
+    if n < 32 { (1 << n) - 1 } else { u32::MAX }
 }
 
 // The n numbers from 0 to n - 1 but k: everyone else, seen from k.
@@ -73,5 +73,5 @@ pub fn all_but(n: usize, k: usize) -> u32
 pub fn count(m: u32) -> u32
     ensures { result ≡ size m }
 {
-    u32::count_ones(m)
+    m.count_ones()
 }
