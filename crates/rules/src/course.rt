@@ -9,6 +9,7 @@ use crate::channel::posted;
 use crate::events::event_at;
 use crate::slot::Slot;
 use crate::stepping::{index, turn_of};
+use crate::view::View;
 use protocol::{ACCEPTED, Ran, State};
 
 // What a run returns.
@@ -41,8 +42,8 @@ pub(crate) fn performed(s: State, events: &[u32], answers: &mut [u8]) -> Ran
             txn: state.txns[t],
         };
         let told = if asks_table(e, i, here) {
-            let xs = state.txns;
-            consulted(e, state.count as usize, xs, i, Slot::at(t), here)
+            let view = View { txns: &state.txns, count: state.count as usize, site: i };
+            consulted(e, &view, Slot::at(t), here)
         } else {
             untold(here)
         };

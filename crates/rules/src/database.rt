@@ -1,24 +1,27 @@
 // The database under each site: what a transaction holds, what clashes and conflicts, the end of an operation, and
 // commit here.
-ghost use Rattle.std.specs.Prelude.{◌≡◌, ℕ, ◌<◌, ◌≤◌, slice_index_or};
+#![tactic(auto, unfolding(protocol::specs::Database::executes, protocol::specs::Database::held_reads, protocol::specs::Database::held_writes, protocol::specs::Database::held, protocol::specs::Database::clashes_with, protocol::specs::Database::conflicts_with, protocol::specs::Database::woken, protocol::specs::Database::appended, protocol::specs::Database::stored, protocol::specs::Database::ended))]
+
+ghost use Rattle.std.specs.Prelude.{◌≡◌, ℕ, ◌<◌, slice_index_or};
 ghost use Rattle.protocol.specs.Database.{executes, held_reads, held_writes, held, clashes_with, conflicts_with, clash, conflicts, noted, ended, woken, appended, stored};
 
 use crate::row::{status_in, store_at};
 use crate::slot::Slot;
+use crate::view::View;
 use protocol::{ACTIVE, BLOCKED, Log, PRE_COMMIT, Place, Row, Txn};
 
 // Does a transaction of status v execute at the site?
-pub(crate) fn executes(v: u8) -> bool
+fn executes(v: u8) -> bool
     ensures { result ≡ executes v }
 {
-    (v == ACTIVE) | ((v == BLOCKED) | (v == PRE_COMMIT))
+    matches!(v, ACTIVE | BLOCKED | PRE_COMMIT)
 }
 
 // What transaction x of status v holds for reading at site i.
-pub(crate) fn held_reads(x: Txn, i: usize, v: u8) -> u32
-    ensures { result ≡ held_reads x i v }
+fn held_reads(x: &Txn, i: usize, v: u8) -> u32
+    ensures { result ≡ held_reads x.now i v }
 {
-    if executes(v) & (x.home as usize == i) {
+    if executes(v) && x.home as usize == i {
         x.reads
     } else {
         0
@@ -26,67 +29,60 @@ pub(crate) fn held_reads(x: Txn, i: usize, v: u8) -> u32
 }
 
 // What transaction x of status v holds for writing at site i.
-pub(crate) fn held_writes(x: Txn, i: usize, v: u8) -> u32
-    ensures { result ≡ held_writes x i v }
+fn held_writes(x: &Txn, i: usize, v: u8) -> u32
+    ensures { result ≡ held_writes x.now i v }
 {
     if executes(v) { x.writes } else { 0 }
 }
 
 // What transaction x of status v holds at site i.
-pub(crate) fn held(x: Txn, i: usize, v: u8) -> u32
-    ensures { result ≡ held x i v }
+fn held(x: &Txn, i: usize, v: u8) -> u32
+    ensures { result ≡ held x.now i v }
 {
     sets::union(held_reads(x, i, v), held_writes(x, i, v))
 }
 
 // Does the pending operation of x clash with y, which has status v at site i?
-pub(crate) fn clashes_with(x: Txn, y: Txn, i: usize, v: u8) -> bool
-    ensures { result ≡ clashes_with x y i v }
+fn clashes_with(x: &Txn, y: &Txn, i: usize, v: u8) -> bool
+    ensures { result ≡ clashes_with x.now y.now i v }
 {
     sets::overlap(held_writes(y, i, v), x.pendingreads)
-        | sets::overlap(held(y, i, v), x.pendingwrites)
+        || sets::overlap(held(y, i, v), x.pendingwrites)
 }
 
 // Does x conflict with y, which has status v at site i?
-pub(crate) fn conflicts_with(x: Txn, y: Txn, i: usize, v: u8) -> bool
-    ensures { result ≡ conflicts_with x y i v }
+fn conflicts_with(x: &Txn, y: &Txn, i: usize, v: u8) -> bool
+    ensures { result ≡ conflicts_with x.now y.now i v }
 {
     sets::overlap(held(y, i, v), x.writes)
 }
 
-// Does the pending operation of t meet a lock clash at site i, among the first n transactions?
-pub(crate) fn clash(n: usize, xs: [Txn; 32], i: usize, r: Row, t: Slot) -> bool
-    requires { n ≤ 32 }
-    ensures { result ≡ clash n xs i r t }
-{
-    let x = xs[t.index()];
-    let mut found = false;
-    let mut u = 0usize;
-    while u < n {
-        found = found | ((u != t.index()) & clashes_with(x, xs[u], i, status_in(r, Slot::at(u))));
-        u = u + 1;
+impl View<'_> {
+    // Does the pending operation of t meet a lock clash at the site, whose statuses are r?
+    pub(crate) fn clash(&self, r: Row, t: Slot) -> bool
+        ensures { result ≡ clash self.now.count self.now.txns.now self.now.site r t }
+    {
+        let xs = self.txns;
+        let i = self.site;
+        (0..self.count).any(|u| {
+            u != t.index()
+                && clashes_with(&xs[t.index()], &xs[u], i, status_in(r, Slot::at(u)))
+        })
     }
-    found
-}
 
-// The conflicts of t at site i, among the first n transactions.
-pub(crate) fn conflicts(n: usize, xs: [Txn; 32], i: usize, r: Row, t: Slot) -> u32
-    requires { n ≤ 32 }
-    ensures { result ≡ conflicts n xs i r t }
-{
-    let x = xs[t.index()];
-    let mut them = 0u32;
-    let mut u = 0usize;
-    while u < n {
-        let v = status_in(r, Slot::at(u));
-        if executes(v) {
-            if (u != t.index()) & conflicts_with(x, xs[u], i, v) {
-                them = sets::with(them, u);
-            }
-        }
-        u = u + 1;
+    // The conflicts of t at the site, whose statuses are r.
+    pub(crate) fn conflicts(&self, r: Row, t: Slot) -> u32
+        ensures { result ≡ conflicts self.now.count self.now.txns.now self.now.site r t }
+    {
+        let xs = self.txns;
+        let i = self.site;
+        (0..self.count)
+            .filter(|u| {
+                *u != t.index()
+                    && conflicts_with(&xs[t.index()], &xs[*u], i, status_in(r, Slot::at(*u)))
+            })
+            .fold(0, |them, u| sets::with(them, u))
     }
-    them
 }
 
 // What x has noted once its pending operation has ended at site p.
