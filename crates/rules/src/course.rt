@@ -58,11 +58,7 @@ pub(crate) fn performed(s: State, events: &[u32], answers: &mut [u8]) -> Ran
         state.places[i] = place;
         state.txns[t] = txn;
         if !sets::is_empty(sets::union(d.about, d.readies)) {
-            let ys = state.txns;
-            let ps = state.places;
-            let m = d.message;
-            let qs = posted(i, m, d.about, d.readies, state.sites, ys, ps);
-            state.places = qs;
+            posted(&d, i, state.sites, &state.txns, &mut state.places);
         }
         k = k + 1;
     }

@@ -86,19 +86,14 @@ impl View<'_> {
 }
 
 // What x has noted once its pending operation has ended at site p.
-pub(crate) fn noted(x: Txn, p: Place) -> [u8; 32]
+fn noted(x: Txn, p: Place) -> [u8; 32]
     requires { (o : ℕ) → o < 32 → slice_index_or p.versions o 0 < 255 }
     ensures { result ≡ noted x p }
 {
     let first = sets::minus(x.pendingreads, sets::union(x.reads, x.writes));
-    let versions = p.versions;
     let mut l = x.noted;
-    let mut o = 0usize;
-    while o < 32 {
-        if sets::has(first, o) {
-            l[o] = versions[o] + 1;
-        }
-        o = o + 1;
+    for (o, v) in l.iter_mut().enumerate() {
+        *v = if sets::has(first, o) { p.versions[o] + 1 } else { *v };
     }
     l
 }
@@ -108,36 +103,37 @@ pub(crate) fn ended(x: Txn, p: Place) -> Txn
     requires { (o : ℕ) → o < 32 → slice_index_or p.versions o 0 < 255 }
     ensures { result ≡ ended x p }
 {
-    let seen = noted(x, p);
-    let mut y = x;
-    y.reads = sets::union(x.reads, x.pendingreads);
-    y.writes = sets::union(x.writes, x.pendingwrites);
-    y.pendingreads = 0;
-    y.pendingwrites = 0;
-    y.noted = seen;
-    y
+    Txn {
+        reads: sets::union(x.reads, x.pendingreads),
+        writes: sets::union(x.writes, x.pendingwrites),
+        pendingreads: 0,
+        pendingwrites: 0,
+        noted: noted(x, p),
+        ..x
+    }
 }
 
 // Site p with *remove* true if its queue is not empty.
 pub(crate) fn woken(p: Place) -> Place
     ensures { result ≡ woken p }
 {
-    let mut q = p;
-    q.remove = p.remove | !sets::is_empty(p.queue);
-    q
+    Place {
+        remove: p.remove || !sets::is_empty(p.queue),
+        ..p
+    }
 }
 
 // The log with t at its end.
-pub(crate) fn appended(l: Log, t: Slot) -> Log
+fn appended(l: Log, t: Slot) -> Log
     ensures { result ≡ appended l t }
 {
-    let n = l.length;
-    if n < 32 {
-        let at = n as usize;
-        let mut m = l;
-        m.entries[at] = t.index() as u8;
-        m.length = n + 1;
-        m
+    if l.length < 32 {
+        let mut entries = l.entries;
+        entries[l.length as usize] = t.index() as u8;
+        Log {
+            length: l.length + 1,
+            entries,
+        }
     } else {
         l
     }
@@ -147,12 +143,10 @@ pub(crate) fn appended(l: Log, t: Slot) -> Log
 pub(crate) fn stored(p: Place, t: Slot, writes: u32) -> Place
     ensures { result ≡ stored p t writes }
 {
-    let old = p.log;
-    let log = appended(old, t);
-    let before = p.versions;
-    let versions = store_at(writes, (t.index() + 1) as u8, before);
-    let mut q = p;
-    q.log = log;
-    q.versions = versions;
-    woken(q)
+    let version = (t.index() + 1) as u8;
+    woken(Place {
+        log: appended(p.log, t),
+        versions: store_at(writes, version, p.versions),
+        ..p
+    })
 }

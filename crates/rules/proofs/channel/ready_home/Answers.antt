@@ -1,0 +1,16 @@
+use Rattle.std.proofs.Common.{arith}
+use Rattle.protocol.specs.Channel.{delivered, put}
+use Rattle.protocol.specs.State.{no_place}
+use Rattle.rules.proofs.Loops.{each_begun, each_again, each-ended}
+use Rattle.rules.proofs.channel.ready_home.Goals as goal
+
+pub loop-j-init : goal.loop-j-init
+loop-j-init c = each_begun _ no_place _
+
+pub loop-j-preserved : goal.loop-j-preserved
+unfolding put
+loop-j-preserved c = each_again _ no_place _ _ _ _ c.loop-j.invariant (omega arith) (rw (c.ready_with.ensures, c.homed_at.ensures))
+
+pub returns : goal.returns
+unfolding delivered
+returns c = each-ended _ no_place _ _ _ c.loop-j.invariant (omega arith)
