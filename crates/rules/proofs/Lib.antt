@@ -9,3 +9,4 @@ pub mod Sent
 pub mod Shape
 pub mod Steps
 pub mod Turns
+pub mod Walks

@@ -1,12 +1,13 @@
 // What the table of transactions tells an event. Few events ask it, and only those copy it.
-ghost use Rattle.std.specs.Prelude.{◌≡◌, true, ◌<◌, ◌≤◌};
+#![tactic(auto, unfolding(crate::specs::Turn::asks_table))]
+
+ghost use Rattle.std.specs.Prelude.{◌≡◌, true};
 ghost use Rattle.rules.specs.Turn.{scan_of, asks_table, untold, told_of};
 
-use crate::database::clash;
-use crate::scan::scan_all;
 use crate::slot::Slot;
+use crate::view::View;
 use crate::{Here, Told};
-use protocol::{Event, Scan, Txn};
+use protocol::{Event, Scan};
 
 // A scan as it begins.
 fn begun(h: Here) -> Scan
@@ -28,31 +29,34 @@ pub(crate) fn asks_table(e: Event, i: usize, h: Here) -> bool
     ensures { result ≡ asks_table e i h }
 {
     let x = h.txn;
-    (e.action == 11) | ((e.action == 3) & (x.home as usize == i))
+    e.action == 11 || (e.action == 3 && x.home as usize == i)
 }
 
 // What an event is told that does not ask it.
 pub(crate) fn untold(h: Here) -> Told
     ensures { result ≡ untold h }
 {
-    let scan = begun(h);
-    Told { clash: false, scan }
+    Told {
+        clash: false,
+        scan: begun(h),
+    }
 }
 
-// What the first n transactions tell an event that asks: a scan, or whether its end of operation clashes.
-pub(crate) fn consulted(e: Event, n: usize, xs: [Txn; 32], i: usize, t: Slot, h: Here) -> Told
-    requires { (asks_table e i h ≡ true) × (n ≤ 32) }
-    ensures { result ≡ told_of e n xs i t h }
+// What the table tells an event that asks: a scan, or whether its end of operation clashes.
+pub(crate) fn consulted(e: Event, view: &View<'_>, t: Slot, h: Here) -> Told
+    requires { asks_table e view.now.site h ≡ true }
+    ensures { result ≡ told_of e view.now.count view.now.txns.now view.now.site t h }
 {
-    let first = begun(h);
+    let told = untold(h);
     if e.action == 11 {
-        let scan = scan_all(n, xs, i, first);
-        Told { clash: false, scan }
-    } else {
-        let row = h.row;
         Told {
-            clash: clash(n, xs, i, row, t),
-            scan: first,
+            scan: view.scan_all(told.scan),
+            ..told
+        }
+    } else {
+        Told {
+            clash: view.clash(h.row, t),
+            ..told
         }
     }
 }

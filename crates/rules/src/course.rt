@@ -9,6 +9,7 @@ use crate::channel::posted;
 use crate::events::event_at;
 use crate::slot::Slot;
 use crate::stepping::{index, turn_of};
+use crate::view::View;
 use protocol::{ACCEPTED, Ran, State};
 
 // What a run returns.
@@ -41,8 +42,8 @@ pub(crate) fn performed(s: State, events: &[u32], answers: &mut [u8]) -> Ran
             txn: state.txns[t],
         };
         let told = if asks_table(e, i, here) {
-            let xs = state.txns;
-            consulted(e, state.count as usize, xs, i, Slot::at(t), here)
+            let view = View { txns: &state.txns, count: state.count as usize, site: i };
+            consulted(e, &view, Slot::at(t), here)
         } else {
             untold(here)
         };
@@ -57,11 +58,7 @@ pub(crate) fn performed(s: State, events: &[u32], answers: &mut [u8]) -> Ran
         state.places[i] = place;
         state.txns[t] = txn;
         if !sets::is_empty(sets::union(d.about, d.readies)) {
-            let ys = state.txns;
-            let ps = state.places;
-            let m = d.message;
-            let qs = posted(i, m, d.about, d.readies, state.sites, ys, ps);
-            state.places = qs;
+            posted(&d, i, state.sites, &state.txns, &mut state.places);
         }
         k = k + 1;
     }

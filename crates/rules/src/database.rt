@@ -1,24 +1,27 @@
 // The database under each site: what a transaction holds, what clashes and conflicts, the end of an operation, and
 // commit here.
-ghost use Rattle.std.specs.Prelude.{◌≡◌, ℕ, ◌<◌, ◌≤◌, slice_index_or};
+#![tactic(auto, unfolding(protocol::specs::Database::executes, protocol::specs::Database::held_reads, protocol::specs::Database::held_writes, protocol::specs::Database::held, protocol::specs::Database::clashes_with, protocol::specs::Database::conflicts_with, protocol::specs::Database::woken, protocol::specs::Database::appended, protocol::specs::Database::stored, protocol::specs::Database::ended))]
+
+ghost use Rattle.std.specs.Prelude.{◌≡◌, ℕ, ◌<◌, slice_index_or};
 ghost use Rattle.protocol.specs.Database.{executes, held_reads, held_writes, held, clashes_with, conflicts_with, clash, conflicts, noted, ended, woken, appended, stored};
 
 use crate::row::{status_in, store_at};
 use crate::slot::Slot;
+use crate::view::View;
 use protocol::{ACTIVE, BLOCKED, Log, PRE_COMMIT, Place, Row, Txn};
 
 // Does a transaction of status v execute at the site?
-pub(crate) fn executes(v: u8) -> bool
+fn executes(v: u8) -> bool
     ensures { result ≡ executes v }
 {
-    (v == ACTIVE) | ((v == BLOCKED) | (v == PRE_COMMIT))
+    matches!(v, ACTIVE | BLOCKED | PRE_COMMIT)
 }
 
 // What transaction x of status v holds for reading at site i.
-pub(crate) fn held_reads(x: Txn, i: usize, v: u8) -> u32
-    ensures { result ≡ held_reads x i v }
+fn held_reads(x: &Txn, i: usize, v: u8) -> u32
+    ensures { result ≡ held_reads x.now i v }
 {
-    if executes(v) & (x.home as usize == i) {
+    if executes(v) && x.home as usize == i {
         x.reads
     } else {
         0
@@ -26,83 +29,71 @@ pub(crate) fn held_reads(x: Txn, i: usize, v: u8) -> u32
 }
 
 // What transaction x of status v holds for writing at site i.
-pub(crate) fn held_writes(x: Txn, i: usize, v: u8) -> u32
-    ensures { result ≡ held_writes x i v }
+fn held_writes(x: &Txn, i: usize, v: u8) -> u32
+    ensures { result ≡ held_writes x.now i v }
 {
     if executes(v) { x.writes } else { 0 }
 }
 
 // What transaction x of status v holds at site i.
-pub(crate) fn held(x: Txn, i: usize, v: u8) -> u32
-    ensures { result ≡ held x i v }
+fn held(x: &Txn, i: usize, v: u8) -> u32
+    ensures { result ≡ held x.now i v }
 {
     sets::union(held_reads(x, i, v), held_writes(x, i, v))
 }
 
 // Does the pending operation of x clash with y, which has status v at site i?
-pub(crate) fn clashes_with(x: Txn, y: Txn, i: usize, v: u8) -> bool
-    ensures { result ≡ clashes_with x y i v }
+fn clashes_with(x: &Txn, y: &Txn, i: usize, v: u8) -> bool
+    ensures { result ≡ clashes_with x.now y.now i v }
 {
     sets::overlap(held_writes(y, i, v), x.pendingreads)
-        | sets::overlap(held(y, i, v), x.pendingwrites)
+        || sets::overlap(held(y, i, v), x.pendingwrites)
 }
 
 // Does x conflict with y, which has status v at site i?
-pub(crate) fn conflicts_with(x: Txn, y: Txn, i: usize, v: u8) -> bool
-    ensures { result ≡ conflicts_with x y i v }
+fn conflicts_with(x: &Txn, y: &Txn, i: usize, v: u8) -> bool
+    ensures { result ≡ conflicts_with x.now y.now i v }
 {
     sets::overlap(held(y, i, v), x.writes)
 }
 
-// Does the pending operation of t meet a lock clash at site i, among the first n transactions?
-pub(crate) fn clash(n: usize, xs: [Txn; 32], i: usize, r: Row, t: Slot) -> bool
-    requires { n ≤ 32 }
-    ensures { result ≡ clash n xs i r t }
-{
-    let x = xs[t.index()];
-    let mut found = false;
-    let mut u = 0usize;
-    while u < n {
-        found = found | ((u != t.index()) & clashes_with(x, xs[u], i, status_in(r, Slot::at(u))));
-        u = u + 1;
+impl View<'_> {
+    // Does the pending operation of t meet a lock clash at the site, whose statuses are r?
+    pub(crate) fn clash(&self, r: Row, t: Slot) -> bool
+        ensures { result ≡ clash self.now.count self.now.txns.now self.now.site r t }
+    {
+        let xs = self.txns;
+        let i = self.site;
+        (0..self.count).any(|u| {
+            u != t.index()
+                && clashes_with(&xs[t.index()], &xs[u], i, status_in(r, Slot::at(u)))
+        })
     }
-    found
-}
 
-// The conflicts of t at site i, among the first n transactions.
-pub(crate) fn conflicts(n: usize, xs: [Txn; 32], i: usize, r: Row, t: Slot) -> u32
-    requires { n ≤ 32 }
-    ensures { result ≡ conflicts n xs i r t }
-{
-    let x = xs[t.index()];
-    let mut them = 0u32;
-    let mut u = 0usize;
-    while u < n {
-        let v = status_in(r, Slot::at(u));
-        if executes(v) {
-            if (u != t.index()) & conflicts_with(x, xs[u], i, v) {
-                them = sets::with(them, u);
-            }
-        }
-        u = u + 1;
+    // The conflicts of t at the site, whose statuses are r.
+    pub(crate) fn conflicts(&self, r: Row, t: Slot) -> u32
+        ensures { result ≡ conflicts self.now.count self.now.txns.now self.now.site r t }
+    {
+        let xs = self.txns;
+        let i = self.site;
+        (0..self.count)
+            .filter(|u| {
+                *u != t.index()
+                    && conflicts_with(&xs[t.index()], &xs[*u], i, status_in(r, Slot::at(*u)))
+            })
+            .fold(0, |them, u| sets::with(them, u))
     }
-    them
 }
 
 // What x has noted once its pending operation has ended at site p.
-pub(crate) fn noted(x: Txn, p: Place) -> [u8; 32]
+fn noted(x: Txn, p: Place) -> [u8; 32]
     requires { (o : ℕ) → o < 32 → slice_index_or p.versions o 0 < 255 }
     ensures { result ≡ noted x p }
 {
     let first = sets::minus(x.pendingreads, sets::union(x.reads, x.writes));
-    let versions = p.versions;
     let mut l = x.noted;
-    let mut o = 0usize;
-    while o < 32 {
-        if sets::has(first, o) {
-            l[o] = versions[o] + 1;
-        }
-        o = o + 1;
+    for (o, v) in l.iter_mut().enumerate() {
+        *v = if sets::has(first, o) { p.versions[o] + 1 } else { *v };
     }
     l
 }
@@ -112,36 +103,37 @@ pub(crate) fn ended(x: Txn, p: Place) -> Txn
     requires { (o : ℕ) → o < 32 → slice_index_or p.versions o 0 < 255 }
     ensures { result ≡ ended x p }
 {
-    let seen = noted(x, p);
-    let mut y = x;
-    y.reads = sets::union(x.reads, x.pendingreads);
-    y.writes = sets::union(x.writes, x.pendingwrites);
-    y.pendingreads = 0;
-    y.pendingwrites = 0;
-    y.noted = seen;
-    y
+    Txn {
+        reads: sets::union(x.reads, x.pendingreads),
+        writes: sets::union(x.writes, x.pendingwrites),
+        pendingreads: 0,
+        pendingwrites: 0,
+        noted: noted(x, p),
+        ..x
+    }
 }
 
 // Site p with *remove* true if its queue is not empty.
 pub(crate) fn woken(p: Place) -> Place
     ensures { result ≡ woken p }
 {
-    let mut q = p;
-    q.remove = p.remove | !sets::is_empty(p.queue);
-    q
+    Place {
+        remove: p.remove || !sets::is_empty(p.queue),
+        ..p
+    }
 }
 
 // The log with t at its end.
-pub(crate) fn appended(l: Log, t: Slot) -> Log
+fn appended(l: Log, t: Slot) -> Log
     ensures { result ≡ appended l t }
 {
-    let n = l.length;
-    if n < 32 {
-        let at = n as usize;
-        let mut m = l;
-        m.entries[at] = t.index() as u8;
-        m.length = n + 1;
-        m
+    if l.length < 32 {
+        let mut entries = l.entries;
+        entries[l.length as usize] = t.index() as u8;
+        Log {
+            length: l.length + 1,
+            entries,
+        }
     } else {
         l
     }
@@ -151,12 +143,10 @@ pub(crate) fn appended(l: Log, t: Slot) -> Log
 pub(crate) fn stored(p: Place, t: Slot, writes: u32) -> Place
     ensures { result ≡ stored p t writes }
 {
-    let old = p.log;
-    let log = appended(old, t);
-    let before = p.versions;
-    let versions = store_at(writes, (t.index() + 1) as u8, before);
-    let mut q = p;
-    q.log = log;
-    q.versions = versions;
-    woken(q)
+    let version = (t.index() + 1) as u8;
+    woken(Place {
+        log: appended(p.log, t),
+        versions: store_at(writes, version, p.versions),
+        ..p
+    })
 }

@@ -23,6 +23,7 @@ pub(crate) mod scan;
 pub(crate) mod slot;
 pub(crate) mod stepping;
 pub(crate) mod table;
+pub(crate) mod view;
 
 use crate::course::{performed, ran};
 use crate::range::in_range;

@@ -1,16 +1,10 @@
--- The first j sites have what the definition puts there, and a turn puts it into the next.
-use Rattle.std.proofs.Common.{◌-◌, ◌≤◌, ◌≡◌, cond, length}
+-- The sites before j have what the definition puts there.
+use Rattle.std.proofs.Common.{◌≡◌, cond}
 use Rattle.protocol.specs.Channel.{put}
 use Rattle.protocol.specs.State.{with_channel}
-use Rattle.rules.proofs.Loops.{each_to}
 use Rattle.sets.specs.Set.{has, none}
+use Rattle.rules.proofs.Loops.{each_to}
 use Rattle.rules.proofs.channel.multicast.Given as goal
 
 abbrev pub invariant-loop-j : goal.invariant-loop-j
-invariant-loop-j l =
-    (l.j ≤ 8)
-    × (length l.initial.qs ≡ 8)
-    × (l.qs ≡ each_to (λ k p. with_channel p (put l.m (cond (has l.sites k) l.ts none) p.channel)) l.j l.initial.qs)
-
-abbrev pub decreases-loop-j : goal.decreases-loop-j
-decreases-loop-j l = 8 - l.j
+invariant-loop-j l = l.ps ≡ each_to (λ j p. with_channel p (put l.m (cond (has l.sites j) l.ts none) p.channel)) l.j l.initial.ps

@@ -1,10 +1,10 @@
--- The ready messages about the transactions below t have gone out, and a turn sends one more or none.
-use Rattle.std.proofs.Common.{◌-◌, ◌≤◌, ◌≡◌, length}
-use Rattle.rules.proofs.Sent.{readied_to}
+-- The sites before j have what the definition puts there.
+use Rattle.std.proofs.Common.{◌≡◌}
+use Rattle.protocol.specs.Channel.{put, homed_at}
+use Rattle.protocol.specs.State.{with_channel}
+use Rattle.protocol.specs.declared.Message.TheVariants.{Ready}
+use Rattle.rules.proofs.Loops.{each_to}
 use Rattle.rules.proofs.channel.ready_home.Given as goal
 
-abbrev pub invariant-loop-t : goal.invariant-loop-t
-invariant-loop-t l = (l.t ≤ 32) × (length l.initial.qs ≡ 8) × (l.qs ≡ readied_to l.i l.xs l.ts l.t l.initial.qs)
-
-abbrev pub decreases-loop-t : goal.decreases-loop-t
-decreases-loop-t l = 32 - l.t
+abbrev pub invariant-loop-j : goal.invariant-loop-j
+invariant-loop-j l = l.ps ≡ each_to (λ j p. with_channel p (put (Ready l.i) (homed_at l.xs l.ts j) p.channel)) l.j l.initial.ps

@@ -48,14 +48,17 @@ pub bounds-state-t : goal.bounds-state-t
 bounds-state-t c =
     txn_at_lem _ c.loop-k.invariant.2.ranged _ _ c.index-t.ensures
 
-pub overflow_cast-state : goal.overflow_cast-state
-overflow_cast-state c =
-    omega (arith, count_below _ c.loop-k.invariant.2.ranged)
+pub overflow_cast-view : goal.overflow_cast-view
+overflow_cast-view c = omega (arith, count_below _ c.loop-k.invariant.2.ranged)
+
+pub invariant_of-view : goal.invariant_of-view
+invariant_of-view c = record { fits = count_below _ c.loop-k.invariant.2.ranged }
+
+pub at-requires : goal.at-requires
+at-requires c = txn_at_lem _ c.loop-k.invariant.2.ranged _ _ c.index-t.ensures
 
 pub consulted-told-requires : goal.consulted-told-requires
-consulted-told-requires c =
-    let f = c.loop-k.invariant.2.ranged in
-    (sym c.asks_table.ensures ∙ c.if-asks_table.true, count_below _ f, txn_at_lem _ f _ _ c.index-t.ensures)
+consulted-told-requires c = sym c.asks_table.ensures ∙ c.if-asks_table.true
 
 pub turn_of-d-requires : goal.turn_of-d-requires
 turn_of-d-requires c =
@@ -69,7 +72,7 @@ overflow_cast-answers c =
     let t = c.index-t.result in
     let w : c.if-asks_table.told ≡ told_of c.event_at-e.result s.count s.txns i t (here_at s i t) =
     elim c.if-asks_table.branch [
-      | then-asks_table w ↦ w.told-is ∙ w.consulted-told.ensures
+      | then-asks_table w ↦ w.told-is ∙ w.consulted-told.ensures ∙ ap (λ u. told_of c.event_at-e.result s.count s.txns i u (here_at s i t)) w.at.ensures
       | else-asks_table w ↦ w.told-is ∙ w.untold-told.ensures ∙ told_nothing _ _ _ _ _ _ (sym c.asks_table.ensures ∙ w.if-asks_table.false)
     ] in
     omega (
@@ -88,7 +91,7 @@ overflow_add-sent c =
     let t = c.index-t.result in
     let w : c.if-asks_table.told ≡ told_of c.event_at-e.result s.count s.txns i t (here_at s i t) =
     elim c.if-asks_table.branch [
-      | then-asks_table w ↦ w.told-is ∙ w.consulted-told.ensures
+      | then-asks_table w ↦ w.told-is ∙ w.consulted-told.ensures ∙ ap (λ u. told_of c.event_at-e.result s.count s.txns i u (here_at s i t)) w.at.ensures
       | else-asks_table w ↦ w.told-is ∙ w.untold-told.ensures ∙ told_nothing _ _ _ _ _ _ (sym c.asks_table.ensures ∙ w.if-asks_table.false)
     ] in
     omega (
@@ -123,10 +126,6 @@ pub bounds-state-t-in-loop-k : goal.bounds-state-t-in-loop-k
 bounds-state-t-in-loop-k c =
     txn_at_lem _ c.loop-k.invariant.2.ranged _ _ c.index-t.ensures
 
-pub posted-qs-requires : goal.posted-qs-requires
-posted-qs-requires c =
-    omega (arith, (site_at _ c.loop-k.invariant.2.ranged _ _ c.index-i.ensures).1)
-
 pub overflow_add-k : goal.overflow_add-k
 overflow_add-k c =
     omega (arith, c.loop-k-test.true, c.requires.1)
@@ -148,12 +147,12 @@ loop-k-preserved c =
     let here = with_here s i t d.here in
     let w : c.if-asks_table.told ≡ told_of e s.count s.txns i t (here_at s i t) =
     elim c.if-asks_table.branch [
-      | then-asks_table w ↦ w.told-is ∙ w.consulted-told.ensures
+      | then-asks_table w ↦ w.told-is ∙ w.consulted-told.ensures ∙ ap (λ u. told_of c.event_at-e.result s.count s.txns i u (here_at s i t)) w.at.ensures
       | else-asks_table w ↦ w.told-is ∙ w.untold-told.ensures ∙ told_nothing _ _ _ _ _ _ (sym c.asks_table.ensures ∙ w.if-asks_table.false)
     ] in
     let new : c.if-not-is_empty.state ≡ posted i d.message d.about d.readies here =
     elim c.if-not-is_empty.branch [
-      | then-not-is_empty w ↦ w.state-is ∙ all_posted i d.message d.about d.readies here _ w.posted-qs.ensures
+      | then-not-is_empty w ↦ w.state-is ∙ all_posted i d.message d.about d.readies here _ w.posted.ensures
       | else-not-is_empty w ↦
           w.state-is
           ∙ nothing-posted i d.message d.about d.readies here

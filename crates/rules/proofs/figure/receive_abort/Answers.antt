@@ -10,5 +10,6 @@ returns c =
       c.with_status-n.ensures,
       c.woken-q.ensures,
       c.without.ensures,
+      c.index.ensures.is,
       c.received-p.ensures,
     )

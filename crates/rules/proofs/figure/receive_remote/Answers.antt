@@ -4,4 +4,4 @@ use Rattle.rules.proofs.figure.receive_remote.Goals as goal
 
 pub returns : goal.returns
 unfolding receives
-returns c = rw (c.quiet.ensures, c.with.ensures, c.received-p.ensures)
+returns c = rw (c.quiet.ensures, c.with.ensures, c.index.ensures.is, c.received-p.ensures)

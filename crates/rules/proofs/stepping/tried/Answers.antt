@@ -13,7 +13,7 @@ refusal-j-requires c =
     let p = placed _ _ _ _ (sym c.misplaced-k.ensures ∙ c.if-k-ne-ACCEPTED.false) in
     omega (arith, p.1, c.requires.1)
 
-pub effect-requires : goal.effect-requires
-effect-requires c =
+pub at-t-requires : goal.at-t-requires
+at-t-requires c =
     let p = placed _ _ _ _ (sym c.misplaced-k.ensures ∙ c.if-k-ne-ACCEPTED.false) in
-    (omega (arith, p.1, c.requires.1), c.requires.2)
+    omega (arith, p.1, c.requires.1)

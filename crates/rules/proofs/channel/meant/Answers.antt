@@ -1,8 +1,0 @@
--- Each arm returns what the test chooses.
-use Rattle.rules.proofs.channel.meant.Goals as goal
-
-pub returns-then-has : goal.returns-then-has
-returns-then-has c = rw (← c.has.ensures, c.if-has.true)
-
-pub returns-else-has : goal.returns-else-has
-returns-else-has c = rw (← c.has.ensures, c.if-has.false)

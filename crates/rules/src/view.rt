@@ -1,0 +1,13 @@
+// What an event that asks the table reads of it at one site.
+ghost use Rattle.std.specs.Prelude.{◌≤◌};
+
+use protocol::Txn;
+
+// The table of transactions, of which the first `count` are in use, as seen from a site.
+#[derive(Clone, Copy)]
+pub(crate) struct View<'a> {
+    pub txns: &'a [Txn; 32],
+    pub count: usize,
+    pub site: usize,
+    ghost fits: { count ≤ 32 },
+}
