@@ -6,21 +6,18 @@ use mathlib.Core.Path.{◌≡◌, refl, sym, ap, ◌∙◌, subst}
 use mathlib.Core.Bool.{Bool, true, false, not, cond, ◌&&◌, ◌||◌, or-false}
 use mathlib.Core.List.{List, [], ◌∷◌, ◌++◌}
 use native.Mathlib.Omega.{arith}
-use borrow.Author.Tests.{ltb-true, leb-true, not-false, eq-eqb, ne_eqb}
+use borrow.Author.Tests.{ltb-true, leb-true, not-false}
 use Rattle.protocol.specs.Lists.{table, table_from}
 use Rattle.protocol.specs.State.{at_home}
 use Rattle.protocol.specs.Check.{Check, given, first_of}
 use Rattle.protocol.specs.Answer.{action_of, no_action, no_site, no_transaction, ill_filled, anywhere, home_table, home_met, wrong_home, wrong_status, wrong_missing, message_there, no_message, lock_clash, no_scan, checks_in_range}
-use Rattle.sets.specs.Set.{all_but}
-use Rattle.protocol.specs.declared.Action.{Action}
 use Rattle.protocol.specs.declared.Event.{Event}
 use Rattle.protocol.specs.declared.State.{State}
 use Rattle.laws.specs.Enabled.{numbered}
 use Rattle.laws.specs.Tests.{both_left, both_right}
 use Rattle.laws.specs.Lists.{get_or-table}
-use Rattle.rules.specs.Refusal.{misplaced_by, unless, receive_refusal, refusal_of}
-use Rattle.rules.specs.Turn.{here_at, told_of, quiet, turn_by, turn_for}
-use Rattle.rules.specs.declared.Here.{Here}
+use Rattle.rules.specs.Refusal.{misplaced_by, refusal_of}
+use Rattle.rules.specs.Turn.{here_at, told_of}
 use Rattle.rules.specs.declared.Told.{Told}
 
 -- a known action has a number from 1 to 12
@@ -76,7 +73,6 @@ or-not false b = refl
 module _ (sites n : ℕ) (b : Bool) (e : Event) (h : misplaced_by sites n b e ≡ 0) where
   well_placed : (not (nat_lt e.site sites) ≡ false) × (not (nat_lt e.txn n) ≡ false) × (ill_filled sites e ≡ false)
       × (not (home_met (slice_index_or home_table (e.action - 1) anywhere) b) ≡ false)
-  unfolding misplaced_by
   well_placed = none-given _ _ _ _ h
 
   pub placed : (e.site < sites) × (e.txn < n)
@@ -116,7 +112,7 @@ module _ (s : State) (e : Event) where
   refused_unknown h = rw h
 
   pub refused_misplaced : no_action e ≡ false → (misplaced_in s e ≡ 0 → ⊥) → first_of (checks_in_range s e) ≡ misplaced_in s e
-  unfolding checks_in_range misplaced_by no_site no_transaction wrong_home first_of
+  unfolding checks_in_range no_site no_transaction wrong_home first_of
   refused_misplaced h n = rw h (first_stays (place_checks s e) (own_checks s e) n)
 
   abbrev checked : ℕ → ℕ
@@ -127,7 +123,7 @@ module _ (s : State) (e : Event) where
 
   -- the two are one number for the actions 1 to 12, all of which are computed at once
   twelve : table 12 (λ k. checked (suc k)) ≡ table 12 (λ k. refusing (suc k))
-  unfolding first_of wrong_status wrong_missing no_message message_there lock_clash no_scan action_of told_of refusal_of receive_refusal unless table_from
+  unfolding first_of wrong_status wrong_missing no_message message_there lock_clash no_scan action_of told_of table_from
   twelve = simp (cond-not, or-not, or-false)
 
   pub refused_by_action : no_action e ≡ false → misplaced_in s e ≡ 0
@@ -136,15 +132,3 @@ module _ (s : State) (e : Event) where
   refused_by_action h m =
       let w = well_placed _ _ _ e m in
       rw (h, w.0, w.1, w.2, w.3) (by_number e h checked refusing 0 twelve)
-
--- the turn of an event that is placed well: its action refuses it, or is done
-module _ (a : Action) (e : Event) (sites n : ℕ) (w : Told) (h : Here) where
-  pub turn_refused : misplaced_by sites n (h.txn.home == e.site) e ≡ 0 → (refusal_of a w.clash e.txn h ≡ 0 → ⊥)
-      → turn_for a e sites n w h ≡ quiet (refusal_of a w.clash e.txn h) h
-  unfolding turn_for
-  turn_refused m d = rw (eq-eqb _ _ m, ne_eqb _ _ d)
-
-  pub turn_done : misplaced_by sites n (h.txn.home == e.site) e ≡ 0 → refusal_of a w.clash e.txn h ≡ 0
-      → turn_for a e sites n w h ≡ turn_by a h (all_but sites e.site) w.scan e.site e.txn
-  unfolding turn_for
-  turn_done m d = rw (eq-eqb _ _ m, eq-eqb _ _ d)

@@ -1,18 +1,15 @@
--- What an event returns, by the number that its checks give, and how large its numbers can be.
-use Rattle.std.specs.Prelude.{nat_le}
+-- What an event returns, by the number that its checks give, and how many messages it can send.
 use Prim.Native.Nat.{ℕ, ◌≤◌, zero-le}
 use mathlib.Core.Path.{◌≡◌, refl, sym, ap, ◌∙◌}
-use mathlib.Core.Bool.{Bool, true, false, cond, ◌&&◌}
-use mathlib.Core.List.{List, [], ◌∷◌}
+use mathlib.Core.Bool.{true, false}
 use native.Mathlib.Omega.{arith}
-use borrow.Author.Tests.{leb-true}
 use Rattle.sets.specs.Laws.{size_le}
-use Rattle.protocol.specs.Check.{Check, first_of}
+use Rattle.protocol.specs.Check.{first_of}
 use Rattle.protocol.specs.Range.{in_range}
 use Rattle.protocol.specs.Channel.{others}
 use Rattle.protocol.specs.Scan.{scan, scan_leaves}
 use Rattle.protocol.specs.Figure.{effect}
-use Rattle.protocol.specs.Answer.{action_of, no_action, checks_in_range, checks, answer, refused, done, step}
+use Rattle.protocol.specs.Answer.{action_of, no_action, checks_in_range, checks, answer, Stepped, refused, done, step}
 use Rattle.protocol.specs.declared.Message.TheVariants.{Remote, Ready, Commit, Abort}
 use Rattle.protocol.specs.declared.Action.{Action}
 use Rattle.protocol.specs.declared.Action.TheVariants.{Create, BeginOperation, EndOperation, BeginCommit, EndCommit, LocalAbort, Receive, ExecuteRemote, Discard}
@@ -20,31 +17,12 @@ use Rattle.protocol.specs.declared.Scan.{Scan}
 use Rattle.protocol.specs.declared.Done.{Done}
 use Rattle.protocol.specs.declared.Event.{Event}
 use Rattle.protocol.specs.declared.State.{State}
-use Rattle.protocol.specs.declared.Stepped.{Stepped}
-use Rattle.laws.specs.Tests.{Same, same, other, same?, both_left, both_right}
+use Rattle.laws.specs.Tests.{Same, same, other, same?}
 use Rattle.laws.specs.Enabled.{step-done, step-refused}
-use Rattle.rules.specs.Refusal.{asked_by}
-use Rattle.rules.specs.declared.Asked.TheVariants as asked
 use Rattle.rules.proofs.Bounds.{few_times}
 use Rattle.rules.proofs.Checks.{misplaced_in, refusal_in, refused_unknown, refused_misplaced, refused_by_action}
 
--- ---- how large the numbers can be
-
--- no number of the table is above n
-none_above : ℕ → List Check → Bool
-none_above n [] = true
-none_above n (c ∷ l) = nat_le c.number n && none_above n l
-
--- .. so the first that applies is not
-first_below : (n : ℕ) (l : List Check) → none_above n l ≡ true → first_of l ≤ n
-unfolding none_above first_of
-first_below n [] h = zero-le
-first_below n (c ∷ l) h =
-    go c.applies (first_below n l (both_right (nat_le c.number n) (none_above n l) h))
-  where
-    go : (b : Bool) → first_of l ≤ n → cond b c.number (first_of l) ≤ n
-    go true r = leb-true c.number n (both_left (nat_le c.number n) (none_above n l) h)
-    go false r = r
+-- ---- how many messages an event can send
 
 -- a scan sends an abort about each transaction of a set to each other site, and a ready about each of another set
 scan_few : (s : State) (i : ℕ) (c : Scan) → (scan_leaves s i c).sent ≤ 1056
@@ -69,17 +47,17 @@ sent_few ExecuteRemote s i t = scan_few s i _
 sent_few (Discard m) s i t = zero-le
 
 module _ (s : State) (e : Event) where
-  -- the answer of an event is at most 11, and it sends at most 1,056 messages
-  step_few : ((step s e).answer ≤ 11) × ((step s e).sent ≤ 1056)
-  unfolding answer checks checks_in_range none_above done
+  -- an event sends at most 1,056 messages
+  step_few : (step s e).sent ≤ 1056
+  unfolding done
   step_few = go (same? (answer s e) 0)
     where
-      go : Same (answer s e) 0 → ((step s e).answer ≤ 11) × ((step s e).sent ≤ 1056)
-      go (same z) = rw (step-done s e z) (zero-le, sent_few (action_of e) s e.site e.txn)
-      go (other d) = rw (step-refused s e d) (first_below 11 (checks s e) refl, zero-le)
+      go : Same (answer s e) 0 → (step s e).sent ≤ 1056
+      go (same z) = rw (step-done s e z) (sent_few (action_of e) s e.site e.txn)
+      go (other d) = rw (step-refused s e d) zero-le
 
-  pub few_step : (r : Stepped) → r ≡ step s e → (r ≡ step s e) × (r.answer ≤ 11) × (r.sent ≤ 1056)
-  few_step r h = (h, rw h step_few.0, rw h step_few.1)
+  pub few_sent : (r : Stepped) → r ≡ step s e → r.sent ≤ 1056
+  few_sent r h = rw h step_few
 
   -- ---- what an event returns in a state in range
 
@@ -111,21 +89,3 @@ module _ (s : State) (e : Event) where
           → record { answer = 0; sent = d.sent; state = d.state } ≡ step s e
       unfolding done
       step-enabled p d q = rw q (sym (step-done s e (answer_is ∙ own ∙ p)))
-
--- ---- which action the number asks for
-
-pub asked_known : (e : Event) (a : Action) → asked.Known a ≡ asked_by e → (no_action e ≡ false) × (a ≡ action_of e)
-unfolding asked_by
-asked_known e a h = go (no_action e) h
-  where
-    go : (b : Bool) → asked.Known a ≡ cond b asked.Unknown (asked.Known (action_of e)) → (b ≡ false) × (a ≡ action_of e)
-    go true h = let z : ◌≡◌ {A = ℕ} 0 1 = cc in absurd (omega arith)
-    go false h = (refl, cc)
-
-pub asked_unknown : (e : Event) → asked.Unknown ≡ asked_by e → no_action e ≡ true
-unfolding asked_by
-asked_unknown e h = go (no_action e) h
-  where
-    go : (b : Bool) → asked.Unknown ≡ cond b asked.Unknown (asked.Known (action_of e)) → b ≡ true
-    go true h = refl
-    go false h = let z : ◌≡◌ {A = ℕ} 0 1 = cc in absurd (omega arith)

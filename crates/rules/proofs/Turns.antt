@@ -1,5 +1,5 @@
 -- A turn makes of the parts that it reads what the event makes of the state.
-use Rattle.std.specs.Prelude.{◌==◌, nat_lt}
+use Rattle.std.specs.Prelude.{◌==◌, nat_lt, Result, Ok, Err}
 use Prim.Native.Nat.{ℕ, ◌≤◌, ◌<◌}
 use mathlib.Core.Path.{◌≡◌, refl, sym, ap, ◌∙◌, subst}
 use mathlib.Core.Bool.{Bool, true, false, cond, ◌&&◌, ◌||◌, false≢true}
@@ -16,7 +16,7 @@ use Rattle.protocol.specs.Scan.{scan_all, scan, scan_leaves}
 use Rattle.protocol.specs.Figure.{silent, sending, only, effect}
 use Rattle.protocol.specs.Check.{first_of}
 use Rattle.protocol.specs.Range.{in_range}
-use Rattle.protocol.specs.Answer.{no_action, action_of, refused, step}
+use Rattle.protocol.specs.Answer.{no_action, action_of, Stepped, refused, step}
 use Rattle.protocol.specs.declared.Message.{Message}
 use Rattle.protocol.specs.declared.Message.TheVariants.{Remote, Ready, Commit, Abort}
 use Rattle.protocol.specs.declared.Action.{Action}
@@ -26,17 +26,17 @@ use Rattle.protocol.specs.declared.Scan.{Scan}
 use Rattle.protocol.specs.declared.Event.{Event}
 use Rattle.protocol.specs.declared.State.{State}
 use Rattle.protocol.specs.declared.Done.{Done}
-use Rattle.protocol.specs.declared.Stepped.{Stepped}
+use Rattle.protocol.specs.declared.Refusal.{Refusal}
 use Rattle.laws.specs.Enabled.{numbered}
 use Rattle.laws.specs.Tests.{Test, yes_so, not_so, test, Same, same, other, same?}
 use Rattle.rules.specs.Refusal.{misplaced_by}
-use Rattle.rules.specs.Turn.{here_at, with_here, posted, after_turn, index_of, here_status, here_txn, quiet, telling, receives, scan_of, scan_turn, turn_by, asks_table, untold, told_of, turn_for, turn_of}
+use Rattle.rules.specs.Turn.{here_at, with_here, posted, after_turn, index_of, here_status, here_txn, quiet, telling, scan_of, turn_by, asks_table, untold, told_of, turn_of, turned}
 use Rattle.rules.specs.declared.Here.{Here}
 use Rattle.rules.specs.declared.Told.{Told}
 use Rattle.rules.specs.declared.Turn.{Turn}
 use Rattle.rules.proofs.Sent.{posted_told, posted-none}
 use Rattle.rules.proofs.Checks.{by_number, misplaced_in, told_in, refusal_in, placed}
-use Rattle.rules.proofs.Steps.{few_step, step_unknown, step_misplaced, step-not_enabled, step-enabled}
+use Rattle.rules.proofs.Steps.{step_unknown, step_misplaced, step-not_enabled, step-enabled}
 
 -- ---- each action
 
@@ -54,8 +54,8 @@ module _ (s : State) (i t : ℕ) where
   abbrev left : Turn → Done
   left d = record { state = after_turn s i t d; sent = d.sent }
 
-  left-quiet : (n : ℕ) (h : Here) → left (quiet n h) ≡ record { state = with_here s i t h; sent = 0 }
-  left-quiet n h = rw (posted-none i Remote (with_here s i t h))
+  left-quiet : (h : Here) → left (quiet h) ≡ record { state = with_here s i t h; sent = 0 }
+  left-quiet h = rw (posted-none i Remote (with_here s i t h))
 
   left_told : (m : Message) (h : Here)
       → left (telling m (others s i) t h) ≡ sending (size (others s i)) (multicast m i (only t) (with_here s i t h))
@@ -84,34 +84,19 @@ module _ (s : State) (i t : ℕ) where
   own a = turn_by a (here_at s i t) (others s i) (scan_for a) i t
 
   done_by : (a : Action) → left (own a) ≡ effect a s i t
-  unfolding scan_for turn_by receives scan_turn effect commit_here scan scan_leaves posted
-  done_by Create = left-quiet 0 _ ∙ rw (places_same, txns_same)
-  done_by (BeginOperation r w) = left-quiet 0 _ ∙ rw places_same
-  done_by EndOperation = left-quiet 0 _ ∙ left_ended (at_home s i t)
+  unfolding scan_for effect commit_here scan scan_leaves posted
+  done_by Create = left-quiet _ ∙ rw (places_same, txns_same)
+  done_by (BeginOperation r w) = left-quiet _ ∙ rw places_same
+  done_by EndOperation = left-quiet _ ∙ left_ended (at_home s i t)
   done_by BeginCommit = left_told Remote _ ∙ rw places_same
   done_by EndCommit = left_told Commit _ ∙ rw txns_same
-  done_by LocalAbort = left-quiet 0 _ ∙ rw txns_same
-  done_by (Receive Remote) = left-quiet 0 _ ∙ rw (rows_same, txns_same)
-  done_by (Receive (Ready k)) = left-quiet 0 _ ∙ rw rows_same
-  done_by (Receive Commit) = left-quiet 0 _ ∙ rw txns_same
-  done_by (Receive Abort) = left-quiet 0 _ ∙ rw txns_same
+  done_by LocalAbort = left-quiet _ ∙ rw txns_same
+  done_by (Receive Remote) = left-quiet _ ∙ rw (rows_same, txns_same)
+  done_by (Receive (Ready k)) = left-quiet _ ∙ rw rows_same
+  done_by (Receive Commit) = left-quiet _ ∙ rw txns_same
+  done_by (Receive Abort) = left-quiet _ ∙ rw txns_same
   done_by ExecuteRemote = rw txns_same
-  done_by (Discard m) = left-quiet 0 _ ∙ rw (rows_same, txns_same)
-
-  own-answer : (a : Action) → (own a).answer ≡ 0
-  unfolding scan_for turn_by receives scan_turn
-  own-answer Create = refl
-  own-answer (BeginOperation r w) = refl
-  own-answer EndOperation = refl
-  own-answer BeginCommit = refl
-  own-answer EndCommit = refl
-  own-answer LocalAbort = refl
-  own-answer (Receive Remote) = refl
-  own-answer (Receive (Ready k)) = refl
-  own-answer (Receive Commit) = refl
-  own-answer (Receive Abort) = refl
-  own-answer ExecuteRemote = refl
-  own-answer (Discard m) = refl
+  done_by (Discard m) = left-quiet _ ∙ rw (rows_same, txns_same)
 
 -- ---- what the table tells
 
@@ -148,19 +133,16 @@ module _ (e : Event) (n : ℕ) (xs : List Txn) (i t : ℕ) (h : Here) where
 -- ---- the turn of an event
 
 index_in : (k n : ℕ) → k < n → index_of k n ≡ k
-unfolding index_of
 index_in k n h = rw (lt-ltb k n h)
 
 module _ (s : State) (e : Event) (fine : in_range s ≡ true) where
-  abbrev turn_at : ℕ → ℕ → Turn
-  turn_at i t = turn_of e s.sites s.count (told_of e s.count s.txns i t (here_at s i t)) (here_at s i t)
+  abbrev turn_at : ℕ → ℕ → Result Turn ℕ
+  turn_at i t = turn_of e s.sites s.count (told_of e s.count s.txns i t (here_at s i t)) (here_at s i t) i t
 
-  -- what an event returns whose turn is d
-  abbrev pub returned : ℕ → ℕ → Turn → Stepped
-  returned i t d = record { answer = d.answer; sent = d.sent; state = after_turn s i t d }
-
-  stays : (i t n : ℕ) → returned i t (quiet n (here_at s i t)) ≡ refused n s
-  stays i t n = rw (posted-none i Remote (with_here s i t (here_at s i t)), rows_same s i t, places_same s i t, txns_same s i t)
+  -- what an event returns that has this turn
+  abbrev pub returned : ℕ → ℕ → Result Turn ℕ → Stepped
+  returned i t (Ok d) = record { answer = 0; sent = d.sent; state = after_turn s i t d }
+  returned i t (Err n) = refused n s
 
   module _ (known : no_action e ≡ false) where
     -- at the site and of the transaction of a well placed event
@@ -173,25 +155,22 @@ module _ (s : State) (e : Event) (fine : in_range s ≡ true) where
           (scan_of (here_at s e.site e.txn)) refl
 
       in_place : returned e.site e.txn (turn_at e.site e.txn) ≡ step s e
-      unfolding turn_of turn_for
       in_place = rw (known, well, told_scan) (go (same? (refusal_in s e) 0))
         where
           go : Same (refusal_in s e) 0
               → returned e.site e.txn
-              (cond (refusal_in s e == 0) (own s e.site e.txn (action_of e))
-              (quiet (refusal_in s e) (here_at s e.site e.txn)))
+              (cond (refusal_in s e == 0) (Ok (own s e.site e.txn (action_of e))) (Err (refusal_in s e)))
               ≡ step s e
           go (same z) =
-              rw (eq-eqb _ _ z, own-answer s e.site e.txn (action_of e))
+              rw (eq-eqb _ _ z)
               (step-enabled s e fine known well z (left s e.site e.txn (own s e.site e.txn (action_of e)))
               (done_by s e.site e.txn (action_of e)))
-          go (other d) =
-              rw (ne_eqb _ _ d) (stays e.site e.txn _ ∙ step-not_enabled s e fine known well _ refl d)
+          go (other d) = rw (ne_eqb _ _ d) (step-not_enabled s e fine known well _ refl d)
 
     -- the number is the same where another transaction stands in for one that is not in the table
     same_number : (t : ℕ) → t ≡ index_of e.txn s.count
         → misplaced_by s.sites s.count (at_home s e.site t) e ≡ misplaced_in s e
-    unfolding misplaced_by first_of
+    unfolding first_of
     same_number t h = go (test (nat_lt e.txn s.count))
       where
         go : Test (nat_lt e.txn s.count)
@@ -203,7 +182,6 @@ module _ (s : State) (e : Event) (fine : in_range s ≡ true) where
 
     known_turned : (i t : ℕ) → i ≡ index_of e.site s.sites → t ≡ index_of e.txn s.count
         → returned i t (turn_at i t) ≡ step s e
-    unfolding turn_of turn_for
     known_turned i t hi ht = go (same? (misplaced_by s.sites s.count (at_home s e.site t) e) 0)
       where
         go : Same (misplaced_by s.sites s.count (at_home s e.site t) e) 0 → returned i t (turn_at i t) ≡ step s e
@@ -214,25 +192,19 @@ module _ (s : State) (e : Event) (fine : in_range s ≡ true) where
             let b : t ≡ e.txn = ht ∙ index_in e.txn s.count p.1 in
             subst (λ (j : ℕ). returned j t (turn_at j t) ≡ step s e) (sym a)
             (subst (λ (u : ℕ). returned e.site u (turn_at e.site u) ≡ step s e) (sym b) (in_place well))
-        go (other d) =
-            rw (known, ne_eqb _ _ d) (stays i t _ ∙ step_misplaced s e fine known _ (same_number t ht) d)
+        go (other d) = rw (known, ne_eqb _ _ d) (step_misplaced s e fine known _ (same_number t ht) d)
 
-  turned : (i t : ℕ) → i ≡ index_of e.site s.sites → t ≡ index_of e.txn s.count
+  turned_at : (i t : ℕ) → i ≡ index_of e.site s.sites → t ≡ index_of e.txn s.count
       → returned i t (turn_at i t) ≡ step s e
-  unfolding turn_of
-  turned i t hi ht = go (test (no_action e))
+  turned_at i t hi ht = go (test (no_action e))
     where
       go : Test (no_action e) → returned i t (turn_at i t) ≡ step s e
-      go (yes_so h) = rw h (stays i t 2 ∙ step_unknown s e fine h)
+      go (yes_so h) = rw h (step_unknown s e fine h)
       go (not_so h) = known_turned h i t hi ht
 
-  -- the turn d of the event, and how large its numbers can be
-  module _ (i t : ℕ) (hi : i ≡ index_of e.site s.sites) (ht : t ≡ index_of e.txn s.count) (w : Told)
-      (told : w ≡ told_of e s.count s.txns i t (here_at s i t)) (d : Turn)
-      (h : d ≡ turn_of e s.sites s.count w (here_at s i t))
-    where
-      pub turn_taken : returned i t d ≡ step s e
-      turn_taken = rw (h, told) (turned i t hi ht)
-
-      pub turn_few : (d.answer ≤ 11) × (d.sent ≤ 1056)
-      turn_few = let f = few_step s e (returned i t d) turn_taken in (f.1, f.2)
+  -- what the code gives for the event's turn is what the event returns
+  pub turn_taken : (i t : ℕ) → i ≡ index_of e.site s.sites → t ≡ index_of e.txn s.count
+      → (w : Told) → w ≡ told_of e s.count s.txns i t (here_at s i t)
+      → (r : Result Turn Refusal) → turned r ≡ turn_of e s.sites s.count w (here_at s i t) i t
+      → returned i t (turned r) ≡ step s e
+  turn_taken i t hi ht w told r h = rw (h, told) (turned_at i t hi ht)

@@ -1,14 +1,16 @@
 -- An event by the parts of the state that it reads and changes: the statuses at its site, what else belongs to the site,
 -- its transaction, and the messages that it sends. The table of transactions is read by a lock clash and by a scan alone.
 -- That the parts, put back, make the state that document 01 has is shown beside the proofs.
-use Rattle.std.specs.Prelude.{ℕ, ◌+◌, ◌*◌, Bool, false, true, cond, ◌&&◌, ◌||◌, List, set, ◌==◌, nat_lt}
+use Rattle.std.specs.Prelude.{ℕ, ◌+◌, ◌*◌, ◌<◌, Bool, false, true, cond, ◌&&◌, ◌||◌, List, set, Result, Ok, Err, ◌==◌, nat_lt}
 use Rattle.sets.specs.Set.{none, with, without, all_but, size}
-use Rattle.protocol.specs.State.{active, blocked, precommit, committed, aborted, row_at, place_at, txn_at, ready_in, row_with, with_row, with_place, with_txn, with_queue, with_pending, with_missing}
+use Rattle.protocol.specs.State.{active, blocked, precommit, committed, aborted, row_at, place_at, txn_at, version_in, ready_in, row_with, with_row, with_place, with_txn, with_queue, with_pending, with_missing}
 use Rattle.protocol.specs.Database.{clash, ended, woken, stored}
 use Rattle.protocol.specs.Channel.{received, multicast, ready_home}
 use Rattle.protocol.specs.Scan.{scan_all}
 use Rattle.protocol.specs.Figure.{only}
 use Rattle.protocol.specs.Answer.{no_action, action_of}
+use Rattle.protocol.specs.Refusals.{number_of}
+use Rattle.protocol.specs.declared.Refusal.{Refusal}
 use Rattle.protocol.specs.declared.Message.{Message}
 use Rattle.protocol.specs.declared.Message.TheVariants.{Remote, Ready, Commit, Abort}
 use Rattle.protocol.specs.declared.Action.{Action}
@@ -50,7 +52,7 @@ abbrev pub after_turn : State → ℕ → ℕ → Turn → State
 after_turn s i t d = posted i d.message d.about d.readies (with_here s i t d.here)
 
 -- where a number n of things has no k, the first stands in for it
-unfoldable pub index_of : ℕ → ℕ → ℕ
+abbrev pub index_of : ℕ → ℕ → ℕ
 index_of k n = cond (nat_lt k n) k 0
 
 -- with the status v for t, with another place, with another transaction
@@ -63,22 +65,21 @@ here_place h p = record { row = h.row; place = p; txn = h.txn }
 abbrev pub here_txn : Here → Txn → Here
 here_txn h x = record { row = h.row; place = h.place; txn = x }
 
--- a turn that is answered n and sends nothing
-abbrev pub quiet : ℕ → Here → Turn
-quiet n h = record { answer = n; sent = 0; here = h; message = Remote; about = none; readies = none }
+-- a turn that sends nothing
+abbrev pub quiet : Here → Turn
+quiet h = record { sent = 0; here = h; message = Remote; about = none; readies = none }
 
 -- a turn that sends m about t to the sites `to`
 abbrev pub telling : Message → ℕ → ℕ → Here → Turn
 telling m to t h =
-    record { answer = 0; sent = size to; here = h; message = m; about = only t; readies = none }
+    record { sent = size to; here = h; message = m; about = only t; readies = none }
 
 -- a scan as it begins, and what it leaves, where `to` is the set of all other sites
 abbrev pub scan_of : Here → Scan
 scan_of h = record { rest = h.place.queue; row = h.row; waiting = none; aborts = none; readies = none }
 
-unfoldable pub scan_turn : Here → ℕ → Scan → Turn
+abbrev pub scan_turn : Here → ℕ → Scan → Turn
 scan_turn h to c = record {
-  answer = 0;
   sent = size c.aborts * size to + size c.readies;
   here = record { row = c.row; place = with_queue h.place c.waiting false; txn = h.txn };
   message = Abort;
@@ -88,12 +89,12 @@ scan_turn h to c = record {
 
 -- what each action does to transaction t, where `to` is the set of all other sites: the pending sets are the event's ..
 abbrev pub begins_operation : Here → ℕ → ℕ → ℕ → Turn
-begins_operation h t r w = quiet 0 (here_txn (here_status h t blocked) (with_pending h.txn r w))
+begins_operation h t r w = quiet (here_txn (here_status h t blocked) (with_pending h.txn r w))
 
 -- .. at home, which is site i, they are taken in ..
 abbrev pub ends_operation : Here → ℕ → ℕ → Turn
 ends_operation h i t =
-    quiet 0
+    quiet
     (cond (h.txn.home == i) (here_txn (here_status h t active) (ended h.txn h.place))
     (here_status h t precommit))
 
@@ -107,31 +108,31 @@ ends_commit h to t =
 
 -- .. it is aborted at home ..
 abbrev pub aborts_here : Here → ℕ → Turn
-aborts_here h t = quiet 0 (here_place (here_status h t aborted) (with_queue h.place h.place.queue true))
+aborts_here h t = quiet (here_place (here_status h t aborted) (with_queue h.place h.place.queue true))
 
 -- .. a message about it is received ..
-unfoldable pub receives : Message → Here → ℕ → Turn
+abbrev pub receives : Message → Here → ℕ → Turn
 receives Remote h t =
-    quiet 0 (here_place h (with_queue (received Remote t h.place) (with h.place.queue t) true))
+    quiet (here_place h (with_queue (received Remote t h.place) (with h.place.queue t) true))
 receives (Ready k) h t =
-    quiet 0
+    quiet
     (here_txn (here_place h (received (Ready k) t h.place)) (with_missing h.txn (without h.txn.missing k)))
 receives Commit h t =
-    quiet 0
+    quiet
     (here_place (here_status h t committed) (stored (received Commit t h.place) t h.txn.writes))
 receives Abort h t =
-    quiet 0
+    quiet
     (here_place (here_status h t aborted)
     (woken
     (with_queue (received Abort t h.place) (without h.place.queue t) h.place.remove)))
 
 -- .. and a message about it is discarded
 abbrev pub discards : Message → Here → ℕ → Turn
-discards m h t = quiet 0 (here_place h (received m t h.place))
+discards m h t = quiet (here_place h (received m t h.place))
 
 -- what the action does at site i to transaction t, where c is the scan of the site as it ends
-unfoldable pub turn_by : Action → Here → ℕ → Scan → ℕ → ℕ → Turn
-turn_by Create h to c i t = quiet 0 (here_status h t active)
+abbrev pub turn_by : Action → Here → ℕ → Scan → ℕ → ℕ → Turn
+turn_by Create h to c i t = quiet (here_status h t active)
 turn_by (BeginOperation r w) h to c i t = begins_operation h t r w
 turn_by EndOperation h to c i t = ends_operation h i t
 turn_by BeginCommit h to c i t = begins_commit h to t
@@ -156,16 +157,23 @@ told_of e n xs i t h = record {
   scan = cond (e.action == 11) (scan_all n xs i (scan_of h)) (scan_of h);
 }
 
--- the turn of an event that asks for the action a and is told w: refused where something that is asked of every event, or
--- that the action itself asks, is not met
-unfoldable pub turn_for : Action → Event → ℕ → ℕ → Told → Here → Turn
-turn_for a e sites n w h =
-    cond (misplaced_by sites n (h.txn.home == e.site) e == 0)
-    (cond (refusal_of a w.clash e.txn h == 0)
-    (turn_by a h (all_but sites e.site) w.scan e.site e.txn)
-    (quiet (refusal_of a w.clash e.txn h) h))
-    (quiet (misplaced_by sites n (h.txn.home == e.site) e) h)
+-- no version here is so large that it could not be noted
+abbrev pub few_versions : Here → Type 0
+few_versions h = (o : ℕ) → o < 32 → version_in h.place o < 255
 
--- the turn of an event
-unfoldable pub turn_of : Event → ℕ → ℕ → Told → Here → Turn
-turn_of e sites n w h = cond (no_action e) (quiet 2 h) (turn_for (action_of e) e sites n w h)
+-- the turn of an event that asks for the action a and is told w, at its site i and of its transaction t: refused where
+-- something that is asked of every event, or that the action itself asks, is not met
+abbrev pub turn_for : Action → Event → ℕ → ℕ → Told → Here → ℕ → ℕ → Result Turn ℕ
+turn_for a e sites n w h i t =
+    cond (misplaced_by sites n (h.txn.home == e.site) e == 0)
+    (cond (refusal_of a w.clash t h == 0) (Ok (turn_by a h (all_but sites i) w.scan i t)) (Err (refusal_of a w.clash t h)))
+    (Err (misplaced_by sites n (h.txn.home == e.site) e))
+
+-- the turn of an event, or the number that it is answered
+abbrev pub turn_of : Event → ℕ → ℕ → Told → Here → ℕ → ℕ → Result Turn ℕ
+turn_of e sites n w h i t = cond (no_action e) (Err 2) (turn_for (action_of e) e sites n w h i t)
+
+-- what the code gives for it, in these numbers
+abbrev pub turned : Result Turn Refusal → Result Turn ℕ
+turned (Ok d) = Ok d
+turned (Err r) = Err (number_of r)

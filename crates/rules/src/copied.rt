@@ -1,12 +1,13 @@
 // Below setup: the empty state, an entry of the lent table copied into a state, and the state judged.
-ghost use Rattle.std.specs.Prelude.{◌≡◌, ◌<◌, ◌≤◌};
+ghost use Rattle.std.specs.Prelude.{◌≡◌, ◌≤◌};
 ghost use Rattle.protocol.specs.State.{empty_state, txn_in};
-ghost use Rattle.rules.specs.Copied.{taken_of, from_entry, entered_at, started_row, started_rows, refused_by, judged_of};
+ghost use Rattle.protocol.specs.Refusals.{answer_of, started};
+ghost use Rattle.rules.specs.Copied.{from_entry, started_row, started_rows, setup_refusal, judged_of};
 
+use crate::answer::demand;
 use crate::table::{count_fine, homes_fine, priorities_differ, sites_fine};
 use protocol::{
-    ACCEPTED, Channel, EQUAL_PRIORITIES, Entry, Log, NO_HOME, Place, Row, SITES, START, Started,
-    State, Txn, WRONG_COUNT, WRONG_SITES,
+    Answered, Channel, Entry, Log, Place, Refusal, Row, SITES, START, State, Txn,
 };
 
 // The empty state.
@@ -54,32 +55,15 @@ pub(crate) fn blank() -> State
     }
 }
 
-// How many entries of a table of n are copied: none where they do not fit.
-pub(crate) fn taken(n: usize) -> usize
-    ensures { result ≡ taken_of n }
-{
-    if n <= 32 { n } else { 0 }
-}
-
 // The transaction with an entry copied into it.
 pub(crate) fn with_entry(x: Txn, e: Entry) -> Txn
     ensures { result ≡ from_entry x e }
 {
-    let mut y = x;
-    y.home = e.home;
-    y.priority = e.priority;
-    y
-}
-
-// The state with an entry copied into transaction t.
-pub(crate) fn entered(s: State, t: usize, e: Entry) -> State
-    requires { t < 32 }
-    ensures { result ≡ entered_at s t e }
-{
-    let mut n = s;
-    let x = with_entry(n.txns[t], e);
-    n.txns[t] = x;
-    n
+    Txn {
+        home: e.home,
+        priority: e.priority,
+        ..x
+    }
 }
 
 // The row of site i in a fresh state: start for those of the first n that have their home there.
@@ -88,13 +72,10 @@ fn started_row(n: usize, xs: [Txn; 32], i: usize) -> Row
     ensures { result ≡ started_row n (λ t. (txn_in xs t).home) i }
 {
     let mut status = [0u8; 32];
-    let mut t = 0usize;
-    while t < n {
-        let x = xs[t];
-        if x.home as usize == i {
+    for t in 0..n {
+        if xs[t].home as usize == i {
             status[t] = START;
         }
-        t = t + 1;
     }
     Row { status }
 }
@@ -104,48 +85,32 @@ fn started_rows(n: usize, xs: [Txn; 32]) -> [Row; SITES]
     requires { n ≤ 32 }
     ensures { result ≡ started_rows n (λ t. (txn_in xs t).home) }
 {
-    let status = [0u8; 32];
-    let mut rows = [Row { status }; SITES];
-    let mut i = 0usize;
-    while i < SITES {
-        rows[i] = started_row(n, xs, i);
-        i = i + 1;
-    }
-    rows
+    std::array::from_fn(|i| started_row(n, xs, i))
 }
 
-// A refused setup.
-fn refused(k: u32) -> Started
-    ensures { result ≡ refused_by k }
+// Why a setup of n entries is refused, which have been copied into the state.
+fn setup_refusal(sites: u32, n: usize, s: State) -> Result<(), Refusal>
+    ensures { answer_of result ≡ setup_refusal sites n s }
 {
-    let state = blank();
-    Started { answer: k, state }
+    demand(sites_fine(sites), Refusal::WrongSites)?;
+    demand(count_fine(n), Refusal::WrongCount)?;
+    demand(homes_fine(sites, n, s.txns), Refusal::NoHome)?;
+    demand(priorities_differ(n, s.txns), Refusal::EqualPriorities)
 }
 
-// The setup of a state into which n entries have been copied.
-pub(crate) fn judged(sites: u32, n: usize, s: State) -> Started
-    ensures { result ≡ judged_of sites n s }
+// The setup of a state into which n entries have been copied. A refused one gives the empty state.
+pub(crate) fn judged(sites: u32, n: usize, s: State) -> Answered<()>
+    ensures { started result ≡ judged_of sites n s }
 {
-    if !sites_fine(sites) {
-        return refused(WRONG_SITES);
-    }
-    if !count_fine(n) {
-        return refused(WRONG_COUNT);
-    }
-    let xs = s.txns;
-    if !homes_fine(sites, n, xs) {
-        return refused(NO_HOME);
-    }
-    if !priorities_differ(n, xs) {
-        return refused(EQUAL_PRIORITIES);
-    }
-    let rows = started_rows(n, xs);
-    let mut state = s;
-    state.sites = sites;
-    state.count = n as u32;
-    state.rows = rows;
-    Started {
-        answer: ACCEPTED,
-        state,
-    }
+    let outcome = setup_refusal(sites, n, s);
+    let state = match outcome {
+        Ok(()) => State {
+            sites,
+            count: n as u32,
+            rows: started_rows(n, s.txns),
+            ..s
+        },
+        Err(_) => blank(),
+    };
+    Answered { outcome, state }
 }

@@ -1,66 +1,87 @@
 // The events of a run, one after the other. The state stands in one place: an event reads and writes parts of it there.
-ghost use Rattle.std.specs.Prelude.{◌≡◌, true, ◌++◌, ◌/◌, ◌≤◌, length, drop};
+ghost use Rattle.std.specs.Prelude.{◌≡◌, true, ◌++◌, ◌/◌, ◌<◌, ◌≤◌, length, drop};
 ghost use Rattle.protocol.specs.Range.{in_range};
+ghost use Rattle.protocol.specs.Answer.{step};
 ghost use Rattle.protocol.specs.Run.{events_of, state_after, sent_by, answers_of};
+ghost use Rattle.protocol.specs.Refusals.{answer_of, sent_of};
+ghost use Rattle.rules.specs.Turn.{after_turn, told_of};
 
-use crate::Here;
 use crate::asking::{asks_table, consulted, untold};
 use crate::channel::posted;
-use crate::events::event_at;
+use crate::events::event_in;
 use crate::slot::Slot;
 use crate::stepping::{index, turn_of};
 use crate::view::View;
-use protocol::{ACCEPTED, Ran, State};
+use crate::{Here, Told, Turn};
+use protocol::{Event, Refusal, State};
 
-// What a run returns.
-pub(crate) fn ran(answer: u32, sent: u32, state: State) -> Ran
-    ensures { result ≡ record { answer = answer; sent = sent; state = state } }
+// What the table of transactions tells an event at site i of transaction t, where h is what stands there.
+#[tactic(auto, using(crate::proofs::Turns::told_nothing))]
+fn told(s: &State, e: Event, i: usize, t: Slot, h: Here) -> Told
+    requires { s.now.count ≤ 32 }
+    ensures { result ≡ told_of e s.now.count s.now.txns i t h }
 {
-    Ran {
-        answer,
-        sent,
-        state,
+    if asks_table(e, i, h) {
+        let view = View {
+            txns: &s.txns,
+            count: s.count as usize,
+            site: i,
+        };
+        consulted(e, &view, t, h)
+    } else {
+        untold(h)
     }
 }
 
-// Takes the events, seven numbers each, past refused ones, and writes one answer an event.
-pub(crate) fn performed(s: State, events: &[u32], answers: &mut [u8]) -> Ran
-    requires { (in_range s ≡ true) × (length events.now / 7 ≤ 1024) × (length events.now / 7 ≤ length answers.old) }
-    ensures { (result ≡ record { answer = 0; sent = sent_by s (events_of events.now); state = state_after s (events_of events.now) }) × (answers.new ≡ answers_of s (events_of events.now) ++ drop (length (events_of events.now)) answers.old) }
+// Puts back what a turn at site i of transaction t leaves there, and posts its messages.
+fn leave(s: &mut State, i: usize, t: Slot, d: Turn)
+    requires { i < 8 }
+    ensures { s.new ≡ after_turn s.old i t d }
 {
-    let n = events.len() / 7;
-    let mut state = s;
-    let mut sent = 0u32;
-    let mut k = 0usize;
-    while k < n {
-        let e = event_at(events, k);
-        let i = index(e.site, state.sites);
-        let t = index(e.txn, state.count);
-        let here = Here {
-            row: state.rows[i],
-            place: state.places[i],
-            txn: state.txns[t],
-        };
-        let told = if asks_table(e, i, here) {
-            let view = View { txns: &state.txns, count: state.count as usize, site: i };
-            consulted(e, &view, Slot::at(t), here)
-        } else {
-            untold(here)
-        };
-        let d = turn_of(e, state.sites, state.count, told, here);
-        answers[k] = d.answer as u8;
-        sent = sent + d.sent;
-        let h = d.here;
-        let row = h.row;
-        let place = h.place;
-        let txn = h.txn;
-        state.rows[i] = row;
-        state.places[i] = place;
-        state.txns[t] = txn;
-        if !sets::is_empty(sets::union(d.about, d.readies)) {
-            posted(&d, i, state.sites, &state.txns, &mut state.places);
-        }
-        k = k + 1;
+    let h = d.here;
+    s.rows[i] = h.row;
+    s.places[i] = h.place;
+    s.txns[t.index()] = h.txn;
+    if !sets::is_empty(sets::union(d.about, d.readies)) {
+        posted(&d, i, s.sites, &s.txns, &mut s.places);
     }
-    ran(ACCEPTED, sent, state)
+}
+
+// Takes one event in a state in range, and says how many messages it sent. A refused event changes nothing.
+pub(crate) fn taken(s: &mut State, e: Event) -> Result<u32, Refusal>
+    requires { in_range s.old ≡ true }
+    ensures { record { answer = answer_of result; sent = sent_of result; state = s.new } ≡ step s.old e }
+{
+    let i = index(e.site, s.sites);
+    let t = Slot::at(index(e.txn, s.count));
+    let here = Here {
+        row: s.rows[i],
+        place: s.places[i],
+        txn: s.txns[t.index()],
+    };
+    let told = told(s, e, i, t, here);
+    let d = turn_of(e, s.sites, s.count, told, here, i, t)?;
+    leave(s, i, t, d);
+    Ok(d.sent)
+}
+
+// Takes the events, seven numbers each, past refused ones, writes one answer an event, and says how many messages they sent.
+pub(crate) fn performed(s: &mut State, events: &[u32], answers: &mut [u8]) -> u32
+    requires { (in_range s.old ≡ true) × (length events.now / 7 ≤ 1024) × (length events.now / 7 ≤ length answers.old) }
+    ensures sum { result ≡ sent_by s.old (events_of events.now) }
+    ensures last { s.new ≡ state_after s.old (events_of events.now) }
+    ensures written { answers.new ≡ answers_of s.old (events_of events.now) ++ drop (length (events_of events.now)) answers.old }
+{
+    let (chunks, _) = events.as_chunks::<7>();
+    let mut sent = 0;
+    for (k, chunk) in chunks.iter().enumerate() {
+        answers[k] = match taken(s, event_in(*chunk)) {
+            Ok(n) => {
+                sent += n;
+                0
+            }
+            Err(refusal) => u8::from(refusal),
+        };
+    }
+    sent
 }

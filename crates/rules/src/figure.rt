@@ -1,32 +1,28 @@
 // Figure 2: what each of the twelve actions does where it is enabled. An action changes what stands at its site and its
 // transaction, and sends messages; the rest of the state is neither read nor copied, nor the table.
-ghost use Rattle.std.specs.Prelude.{◌≡◌, ℕ, ◌<◌, slice_index_or};
-ghost use Rattle.rules.specs.Turn.{here_status, quiet, telling, begins_operation, ends_operation, begins_commit, ends_commit, aborts_here, receives, scan_turn, discards, turn_by};
+ghost use Rattle.std.specs.Prelude.{◌≡◌};
+ghost use Rattle.rules.specs.Turn.{few_versions, here_status, quiet, telling, begins_operation, ends_operation, begins_commit, ends_commit, aborts_here, receives, scan_turn, discards, turn_by};
 
 use crate::channel::received;
 use crate::database::{ended, stored, woken};
 use crate::row::row_with;
 use crate::slot::Slot;
 use crate::{Here, Turn};
-use protocol::{ABORTED, ACCEPTED, ACTIVE, Action, BLOCKED, COMMITTED, Message, PRE_COMMIT, Scan};
+use protocol::{ABORTED, ACTIVE, Action, BLOCKED, COMMITTED, Message, PRE_COMMIT, Place, Scan, Txn};
 
 // What stands here, with the status v for transaction t.
 fn with_status(h: Here, t: Slot, v: u8) -> Here
     ensures { result ≡ here_status h t v }
 {
-    let old = h.row;
-    let row = row_with(old, t, v);
-    let mut n = h;
-    n.row = row;
-    n
+    let row = row_with(h.row, t, v);
+    Here { row, ..h }
 }
 
-// What an event leaves that is answered n and sends nothing.
-pub(crate) fn quiet(n: u32, here: Here) -> Turn
-    ensures { result ≡ quiet n here }
+// What an event leaves that sends nothing.
+fn quiet(here: Here) -> Turn
+    ensures { result ≡ quiet here }
 {
     Turn {
-        answer: n,
         sent: 0,
         here,
         message: Message::Remote,
@@ -40,12 +36,10 @@ fn telling(message: Message, sites: u32, t: Slot, here: Here) -> Turn
     ensures { result ≡ telling message sites t here }
 {
     Turn {
-        answer: ACCEPTED,
         sent: sets::count(sites),
-        here,
         message,
         about: sets::with(0, t.index()),
-        readies: 0,
+        ..quiet(here)
     }
 }
 
@@ -53,28 +47,31 @@ fn telling(message: Message, sites: u32, t: Slot, here: Here) -> Turn
 fn begin_operation(h: Here, t: Slot, reads: u32, writes: u32) -> Turn
     ensures { result ≡ begins_operation h t reads writes }
 {
-    let mut x = h.txn;
-    x.pendingreads = reads;
-    x.pendingwrites = writes;
-    let mut n = with_status(h, t, BLOCKED);
-    n.txn = x;
-    quiet(ACCEPTED, n)
+    let txn = Txn {
+        pendingreads: reads,
+        pendingwrites: writes,
+        ..h.txn
+    };
+    quiet(Here {
+        txn,
+        ..with_status(h, t, BLOCKED)
+    })
 }
 
 // At home t takes in its pending sets and is active again; away from home it is in pre_commit.
 fn end_operation(h: Here, i: usize, t: Slot) -> Turn
-    requires { (o : ℕ) → o < 32 → slice_index_or h.place.versions o 0 < 255 }
+    requires { few_versions h }
     ensures { result ≡ ends_operation h i t }
 {
     let x = h.txn;
     if x.home as usize == i {
-        let p = h.place;
-        let y = ended(x, p);
-        let mut n = with_status(h, t, ACTIVE);
-        n.txn = y;
-        quiet(ACCEPTED, n)
+        let txn = ended(x, h.place);
+        quiet(Here {
+            txn,
+            ..with_status(h, t, ACTIVE)
+        })
     } else {
-        quiet(ACCEPTED, with_status(h, t, PRE_COMMIT))
+        quiet(with_status(h, t, PRE_COMMIT))
     }
 }
 
@@ -82,11 +79,15 @@ fn end_operation(h: Here, i: usize, t: Slot) -> Turn
 fn begin_commit(h: Here, others: u32, t: Slot) -> Turn
     ensures { result ≡ begins_commit h others t }
 {
-    let mut x = h.txn;
-    x.missing = others;
-    let mut n = with_status(h, t, PRE_COMMIT);
-    n.txn = x;
-    telling(Message::Remote, others, t, n)
+    let txn = Txn {
+        missing: others,
+        ..h.txn
+    };
+    let here = Here {
+        txn,
+        ..with_status(h, t, PRE_COMMIT)
+    };
+    telling(Message::Remote, others, t, here)
 }
 
 // t commits here, and commit goes to all other sites.
@@ -94,49 +95,52 @@ fn end_commit(h: Here, others: u32, t: Slot) -> Turn
     ensures { result ≡ ends_commit h others t }
 {
     let x = h.txn;
-    let old = h.place;
-    let p = stored(old, t, x.writes);
-    let mut n = with_status(h, t, COMMITTED);
-    n.place = p;
-    telling(Message::Commit, others, t, n)
+    let place = stored(h.place, t, x.writes);
+    let here = Here {
+        place,
+        ..with_status(h, t, COMMITTED)
+    };
+    telling(Message::Commit, others, t, here)
 }
 
 // t is aborted, and *remove* is true.
 fn local_abort(h: Here, t: Slot) -> Turn
     ensures { result ≡ aborts_here h t }
 {
-    let mut p = h.place;
-    p.remove = true;
-    let mut n = with_status(h, t, ABORTED);
-    n.place = p;
-    quiet(ACCEPTED, n)
+    let place = Place {
+        remove: true,
+        ..h.place
+    };
+    quiet(Here {
+        place,
+        ..with_status(h, t, ABORTED)
+    })
 }
 
 // Remote is taken, and t is queued; *remove* is true.
 fn receive_remote(h: Here, t: Slot) -> Turn
     ensures { result ≡ receives Message.Remote h t }
 {
-    let old = h.place;
-    let mut p = received(Message::Remote, t, old);
-    p.queue = sets::with(p.queue, t.index());
-    p.remove = true;
-    let mut n = h;
-    n.place = p;
-    quiet(ACCEPTED, n)
+    let p = received(Message::Remote, t, h.place);
+    let place = Place {
+        queue: sets::with(p.queue, t.index()),
+        remove: true,
+        ..p
+    };
+    quiet(Here { place, ..h })
 }
 
 // Ready is taken, and its sender leaves the missing set.
 fn receive_ready(h: Here, t: Slot, from: u32) -> Turn
     ensures { result ≡ receives (Message.Ready from) h t }
 {
-    let old = h.place;
-    let p = received(Message::Ready(from), t, old);
-    let mut x = h.txn;
-    x.missing = sets::without(x.missing, from as usize);
-    let mut n = h;
-    n.place = p;
-    n.txn = x;
-    quiet(ACCEPTED, n)
+    let place = received(Message::Ready(from), t, h.place);
+    let x = h.txn;
+    let txn = Txn {
+        missing: sets::without(x.missing, from as usize),
+        ..x
+    };
+    quiet(Here { place, txn, ..h })
 }
 
 // Commit is taken, and t commits here.
@@ -144,41 +148,41 @@ fn receive_commit(h: Here, t: Slot) -> Turn
     ensures { result ≡ receives Message.Commit h t }
 {
     let x = h.txn;
-    let old = h.place;
-    let p = stored(received(Message::Commit, t, old), t, x.writes);
-    let mut n = with_status(h, t, COMMITTED);
-    n.place = p;
-    quiet(ACCEPTED, n)
+    let place = stored(received(Message::Commit, t, h.place), t, x.writes);
+    quiet(Here {
+        place,
+        ..with_status(h, t, COMMITTED)
+    })
 }
 
 // Abort is taken, and t is aborted and out of the queue; *remove* is true if the queue is not empty.
 fn receive_abort(h: Here, t: Slot) -> Turn
     ensures { result ≡ receives Message.Abort h t }
 {
-    let old = h.place;
-    let mut p = received(Message::Abort, t, old);
-    p.queue = sets::without(p.queue, t.index());
-    let q = woken(p);
-    let mut n = with_status(h, t, ABORTED);
-    n.place = q;
-    quiet(ACCEPTED, n)
+    let p = received(Message::Abort, t, h.place);
+    let place = woken(Place {
+        queue: sets::without(p.queue, t.index()),
+        ..p
+    });
+    quiet(Here {
+        place,
+        ..with_status(h, t, ABORTED)
+    })
 }
 
 // What the scan c leaves.
 fn scan_leaves(h: Here, others: u32, c: Scan) -> Turn
     ensures { result ≡ scan_turn h others c }
 {
+    let place = Place {
+        queue: c.waiting,
+        remove: false,
+        ..h.place
+    };
     let row = c.row;
-    let mut p = h.place;
-    p.queue = c.waiting;
-    p.remove = false;
-    let mut here = h;
-    here.row = row;
-    here.place = p;
     Turn {
-        answer: ACCEPTED,
         sent: sets::count(c.aborts) * sets::count(others) + sets::count(c.readies),
-        here,
+        here: Here { row, place, ..h },
         message: Message::Abort,
         about: c.aborts,
         readies: c.readies,
@@ -189,11 +193,8 @@ fn scan_leaves(h: Here, others: u32, c: Scan) -> Turn
 fn discard(h: Here, t: Slot, m: Message) -> Turn
     ensures { result ≡ discards m h t }
 {
-    let old = h.place;
-    let p = received(m, t, old);
-    let mut n = h;
-    n.place = p;
-    quiet(ACCEPTED, n)
+    let place = received(m, t, h.place);
+    quiet(Here { place, ..h })
 }
 
 // The message about t is received.
@@ -210,11 +211,11 @@ fn receive(m: Message, h: Here, t: Slot) -> Turn
 
 // What the action does at site i to transaction t, where `scan` is the scan of the site as it ends.
 pub(crate) fn effect(a: Action, h: Here, others: u32, scan: Scan, i: usize, t: Slot) -> Turn
-    requires { (o : ℕ) → o < 32 → slice_index_or h.place.versions o 0 < 255 }
+    requires { few_versions h }
     ensures { result ≡ turn_by a h others scan i t }
 {
     match a {
-        Action::Create => quiet(ACCEPTED, with_status(h, t, ACTIVE)),
+        Action::Create => quiet(with_status(h, t, ACTIVE)),
         Action::BeginOperation { reads, writes } => begin_operation(h, t, reads, writes),
         Action::EndOperation => end_operation(h, i, t),
         Action::BeginCommit => begin_commit(h, others, t),

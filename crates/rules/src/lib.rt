@@ -3,6 +3,7 @@
 #![tactic(auto)]
 
 ghost use Rattle.std.specs.Prelude.{◌≡◌, length};
+ghost use Rattle.protocol.specs.Refusals.{answer_of, started, stepped, ran};
 ghost use Rattle.protocol.specs.Setup.{setup, setup_of};
 ghost use Rattle.protocol.specs.Answer.{step};
 ghost use Rattle.protocol.specs.Run.{events_of, run, answers_after};
@@ -25,13 +26,11 @@ pub(crate) mod stepping;
 pub(crate) mod table;
 pub(crate) mod view;
 
-use crate::course::{performed, ran};
+use crate::answer::demand;
+use crate::copied::{blank, judged, with_entry};
+use crate::course::{performed, taken};
 use crate::range::in_range;
-use copied::{blank, entered, judged, taken, with_entry};
-use protocol::{
-    ACCEPTED, Action, Entry, Event, Message, NO_ROOM, OUT_OF_RANGE, Place, Ran, Row, Scan, Started,
-    State, Stepped, TOO_MANY_EVENTS, Txn,
-};
+use protocol::{Answered, Entry, Event, Message, Place, Refusal, Row, Scan, State, Txn};
 
 // What an event reads of the state and can change there, but for the channels of other sites: the statuses at its site, what
 // else belongs to the site, and its transaction.
@@ -50,11 +49,10 @@ pub(crate) struct Told {
     pub scan: Scan,
 }
 
-// What an event leaves: its answer, how many messages it sent, what it makes of the parts that it read, a message with the
-// set of the transactions about which it goes to all other sites, and the set of those about which ready goes to their home.
+// What an event leaves: how many messages it sent, what it makes of the parts that it read, a message with the set of the
+// transactions about which it goes to all other sites, and the set of those about which ready goes to their home.
 #[derive(Clone, Copy)]
 pub(crate) struct Turn {
-    pub answer: u32,
     pub sent: u32,
     pub here: Here,
     pub message: Message,
@@ -62,88 +60,58 @@ pub(crate) struct Turn {
     pub readies: u32,
 }
 
-// What the number of an event asks for.
-#[derive(Clone, Copy)]
-pub(crate) enum Asked {
-    Known(Action),
-    Unknown,
-}
-
 // Sets up the sites and the lent table of transactions. This is the only function that touches the table.
-pub fn setup(sites: u32, table: &[Entry]) -> Started
-    ensures { result ≡ setup sites table.now }
+pub fn setup(sites: u32, table: &[Entry]) -> Answered<()>
+    ensures { started result ≡ setup sites table.now }
 {
-    let n = table.len();
-    let m = taken(n);
-    let mut s = blank();
-    let mut i = 0;
-    while i < m {
-        s = entered(s, i, table[i]);
-        i = i + 1;
+    let mut state = blank();
+    for (t, e) in table.iter().take(32).enumerate() {
+        state.txns[t] = with_entry(state.txns[t], *e);
     }
-    judged(sites, n, s)
+    judged(sites, table.len(), state)
 }
 
 // The same for a caller that holds its entries by value, of which the first n count.
-pub fn setup_of(sites: u32, n: usize, entries: [Entry; 32]) -> Started
-    ensures { result ≡ setup_of sites n entries }
+pub fn setup_of(sites: u32, n: usize, entries: [Entry; 32]) -> Answered<()>
+    ensures { started result ≡ setup_of sites n entries }
 {
-    let m = taken(n);
-    let mut s = blank();
-    let mut i = 0usize;
-    while i < m {
-        let x = with_entry(s.txns[i], entries[i]);
-        s.txns[i] = x;
-        i = i + 1;
+    match entries.get(..n) {
+        Some(table) => setup(sites, table),
+        None => judged(sites, n, blank()),
     }
-    judged(sites, n, s)
 }
 
-// What the event returns: its answer, how many messages it sent, and the state after it. It is a run of one event.
-pub fn step(s: State, e: Event) -> Stepped
-    ensures { result ≡ step s e }
+// What the event returns: how many messages it sent, or its refusal, and the state after it.
+pub fn step(s: State, e: Event) -> Answered<u32>
+    ensures { stepped result ≡ step s e }
 {
-    if in_range(s) {
-        let events = [e.action, e.site, e.txn, e.kind, e.from, e.reads, e.writes];
-        let mut answers = [0u8; 1];
-        let r = performed(s, &events, &mut answers);
-        let state = r.state;
-        Stepped {
-            answer: answers[0] as u32,
-            sent: r.sent,
-            state,
-        }
+    let mut state = s;
+    let outcome = if in_range(s) {
+        taken(&mut state, e)
     } else {
-        Stepped {
-            answer: OUT_OF_RANGE,
-            sent: 0,
-            state: s,
-        }
-    }
+        Err(Refusal::OutOfRange)
+    };
+    Answered { outcome, state }
 }
 
-// Why a run of n events with room for so many answers is refused: 31, 32 or 1, or 0 where it is not.
-fn run_refusal(n: usize, room: usize, s: State) -> u32
-    ensures { result ≡ run_refusal n room s }
+// Why a run of n events with room for so many answers is refused.
+fn run_refusal(n: usize, room: usize, s: State) -> Result<(), Refusal>
+    ensures { answer_of result ≡ run_refusal n room s }
 {
-    if 1024 < n {
-        return TOO_MANY_EVENTS;
-    }
-    if room < n {
-        return NO_ROOM;
-    }
-    if in_range(s) { ACCEPTED } else { OUT_OF_RANGE }
+    demand(n <= 1024, Refusal::TooManyEvents)?;
+    demand(n <= room, Refusal::NoRoom)?;
+    demand(in_range(s), Refusal::OutOfRange)
 }
 
 // Takes the events, seven numbers each, one after the other, past refused ones, and writes one answer an event. A run
 // that is refused writes nothing and gives the state back.
-pub fn run(s: State, events: &[u32], answers: &mut [u8]) -> Ran
-    ensures { (result ≡ run s (events_of events.now) (length answers.old)) × (answers.new ≡ answers_after s (events_of events.now) answers.old) }
+pub fn run(s: State, events: &[u32], answers: &mut [u8]) -> Answered<u32>
+    ensures { (ran result ≡ run s (events_of events.now) (length answers.old)) × (answers.new ≡ answers_after s (events_of events.now) answers.old) }
 {
-    let refusal = run_refusal(events.len() / 7, answers.len(), s);
-    if refusal == ACCEPTED {
-        performed(s, events, answers)
-    } else {
-        ran(refusal, 0, s)
-    }
+    let mut state = s;
+    let outcome = match run_refusal(events.len() / 7, answers.len(), s) {
+        Ok(()) => Ok(performed(&mut state, events, answers)),
+        Err(refusal) => Err(refusal),
+    };
+    Answered { outcome, state }
 }

@@ -1,7 +1,6 @@
--- By what the calls ensure, each part is the definition's; the sum fits, since a set has at most 32 members.
+-- The sum fits, since a set has at most 32 members.
 use Rattle.std.proofs.Common.{arith}
 use Rattle.rules.proofs.Bounds.{few, few_times}
-use Rattle.rules.specs.Turn.{scan_turn}
 use Rattle.rules.proofs.figure.scan_leaves.Goals as goal
 
 pub overflow_mul-result : goal.overflow_mul-result
@@ -14,7 +13,3 @@ overflow_add-result c =
       few_times _ _ _ _ c.count.ensures c.count-2.ensures,
       few _ _ c.count-3.ensures,
     )
-
-pub returns : goal.returns
-unfolding scan_turn
-returns c = rw (c.count-3.ensures, c.count-2.ensures, c.count.ensures)

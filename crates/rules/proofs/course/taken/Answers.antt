@@ -1,0 +1,36 @@
+-- A turn, put back, is what the event returns.
+use Rattle.std.proofs.Common.{◌∙◌, Ok, Err, arith}
+use Rattle.std.proofs.lemmas.Grind.{common_steps}
+use Rattle.rules.proofs.Bounds.{count_below, site_at, txn_at_lem, versions_below}
+use Rattle.rules.proofs.Turns.{turn_taken}
+use Rattle.rules.proofs.course.taken.Goals as goal
+
+pub at-t-requires : goal.at-t-requires
+at-t-requires c = txn_at_lem _ c.requires _ _ c.index.ensures
+
+pub bounds-s-i : goal.bounds-s-i
+bounds-s-i c = (site_at _ c.requires _ _ c.index-i.ensures).1
+
+pub bounds-s-i-2 : goal.bounds-s-i-2
+bounds-s-i-2 c = (site_at _ c.requires _ _ c.index-i.ensures).1
+
+pub told-told-requires : goal.told-told-requires
+told-told-requires c = count_below _ c.requires
+
+pub turn_of-requires : goal.turn_of-requires
+turn_of-requires c = versions_below _ c.requires _ (site_at _ c.requires _ _ c.index-i.ensures).0
+
+pub returns-in_err-d : goal.returns-in_err-d
+returns-in_err-d c =
+    let w = rw c.index-2.ensures.is at c.told-told.ensures in
+    let p =
+    turn_taken c.args.s.now c.args.e c.requires _ _ c.index-i.ensures (c.at-t.ensures ∙ c.index.ensures) _ w (Err c.in_err-d.field-0.0)
+    (rw c.index-2.ensures.is at c.in_err-d.ensures) in
+    grind (arith, common_steps, p)
+
+pub returns : goal.returns
+returns c =
+    let w = rw c.index-2.ensures.is at c.told-told.ensures in
+    rw c.leave.ensures
+    (turn_taken c.args.s.now c.args.e c.requires _ _ c.index-i.ensures (c.at-t.ensures ∙ c.index.ensures) _ w (Ok c.in_ok-d.d)
+    (rw c.index-2.ensures.is at c.in_ok-d.ensures))
