@@ -2,7 +2,7 @@
 use Rattle.std.specs.Prelude.{nat_lt, slice_index_or}
 use Prim.Native.Nat.{ℕ, zero, suc, ◌+◌, ◌≤◌, ◌<◌}
 use mathlib.Core.Path.{◌≡◌, refl, sym, ap, ap₂, ◌∙◌, subst}
-use mathlib.Core.Bool.{Bool, true, false, cond, ◌&&◌, ◌||◌}
+use mathlib.Core.Bool.{Bool, true, false, cond, ◌&&◌}
 use mathlib.Core.List.{List, [], ◌∷◌}
 use native.Mathlib.Nat.{le_antisymm}
 use native.Mathlib.Numerals.{add-one}
@@ -10,9 +10,9 @@ use native.Mathlib.Omega.{arith}
 use lib.ListN.{length, set, length-set}
 use lib.Seq.{get_or-set_same, get_or-set_other, ext_get_or}
 use borrow.Author.Tests.{lt-ltb, le-ltb, ltb-true, ltb-false}
-use Rattle.sets.specs.Set.{has, none, is_empty, with, with_in, those}
+use Rattle.sets.specs.Set.{has, none, is_empty, those}
 use Rattle.sets.specs.Laws.{empty_none}
-use Rattle.protocol.specs.Lists.{each_from, each, store_at, all_below, some_below}
+use Rattle.protocol.specs.Lists.{each_from, each, store_at, all_below}
 use Rattle.laws.specs.Tests.{Test, yes_so, not_so, test, Same, same, other, same?}
 use Rattle.laws.specs.Lists.{length-each, get_or-each}
 
@@ -95,43 +95,16 @@ from_same f h i (x ∷ l) = ap₂ ◌∷◌ (h i x) (from_same f h (suc i) l)
 pub stored-none : {A : Type 0} (m : ℕ) (v : A) (l : List A) → is_empty m ≡ true → l ≡ store_at m v l
 stored-none m v l h = sym (from_same (λ k x. cond (has m k) v x) (λ k x. rw (empty_none m k h)) 0 l)
 
--- ---- a loop that collects those that pass a test
+-- ---- a set of those that pass a test
 
 pub those-none : (n : ℕ) (p : ℕ → Bool) → ((k : ℕ) → p k ≡ false) → those n p ≡ none
 unfolding those
 those-none zero p h = refl
 those-none (suc n) p h = rw (h n) (those-none n p h)
 
-pub some_none : (n : ℕ) (p : ℕ → Bool) → ((k : ℕ) → p k ≡ false) → some_below n p ≡ false
-unfolding some_below
-some_none zero p h = refl
-some_none (suc n) p h = rw (some_none n p h, h n)
+-- ---- loops that test
 
 module _ (p : ℕ → Bool) where
-  pub those_begun : 0 ≡ those 0 p
-  unfolding those
-  those_begun = refl
-
-  -- a turn that adds k
-  pub those_turned : (k w w' : ℕ) → k < 32 → w ≡ those k p → p k ≡ true → w' ≡ with w k → w' ≡ those (k + 1) p
-  unfolding those with_in
-  those_turned k w w' h e t q = rw (add-one k, t) (q ∙ rw (lt-ltb k 32 h, e))
-
-  -- a turn that does not
-  pub those_passed : (k w : ℕ) → w ≡ those k p → p k ≡ false → w ≡ those (k + 1) p
-  unfolding those
-  those_passed k w e t = rw (add-one k, t) e
-
-  -- ---- loops that test
-
-  pub some_begun : false ≡ some_below 0 p
-  unfolding some_below
-  some_begun = refl
-
-  pub some_turned : (k : ℕ) (b c : Bool) → b ≡ some_below k p → c ≡ p k → (b || c) ≡ some_below (k + 1) p
-  unfolding some_below
-  some_turned k b c e t = rw (add-one k, e, t)
-
   pub all_begun : true ≡ all_below 0 p
   unfolding all_below
   all_begun = refl

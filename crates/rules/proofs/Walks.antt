@@ -1,8 +1,8 @@
 -- Chains of iterators over the numbers below n, in the words of the definitions.
-use Rattle.std.specs.Prelude.{ℕ, zero, suc, ◌+◌, ◌^◌, ◌≤◌, ◌<◌, Bool, true, false, ◌≡◌, ◌||◌, List, [], ◌∷◌, ◌++◌, cond}
+use Rattle.std.specs.Prelude.{ℕ, zero, suc, ◌+◌, ◌^◌, ◌≤◌, ◌<◌, Bool, true, false, ◌≡◌, [], ◌∷◌, ◌++◌, cond}
 use Rattle.std.specs.List.{range_with_len, list_any, filter, fold}
 use Rattle.std.specs.Int.Bits.{bit_or}
-use Rattle.std.proofs.Common.{refl, sym, ap, ◌∙◌, arith, lt-ltb, add-zero, add-one, add-suc, suc-add, zero-add}
+use Rattle.std.proofs.Common.{refl, ap, ◌∙◌, arith, lt-ltb, add-zero}
 use Rattle.std.proofs.lemmas.List.Elements.{filter-append}
 use Rattle.std.proofs.lemmas.List.Folds.{list_any-append}
 use Rattle.std.proofs.lemmas.List.Sums.{fold-append}

@@ -1,9 +1,9 @@
 -- An event by the parts of the state that it reads and changes: the statuses at its site, what else belongs to the site,
 -- its transaction, and the messages that it sends. The table of transactions is read by a lock clash and by a scan alone.
 -- That the parts, put back, make the state that document 01 has is shown beside the proofs.
-use Rattle.std.specs.Prelude.{ℕ, ◌+◌, ◌*◌, ◌<◌, Bool, false, true, cond, ◌&&◌, ◌||◌, List, set, Result, Ok, Err, ◌==◌, nat_lt}
+use Rattle.std.specs.Prelude.{ℕ, ◌+◌, ◌*◌, ◌<◌, Bool, false, true, cond, ◌&&◌, ◌||◌, List, Result, Ok, Err, ◌==◌, nat_lt}
 use Rattle.sets.specs.Set.{none, with, without, all_but, size}
-use Rattle.protocol.specs.State.{active, blocked, precommit, committed, aborted, row_at, place_at, txn_at, version_in, ready_in, row_with, with_row, with_place, with_txn, with_queue, with_pending, with_missing}
+use Rattle.protocol.specs.State.{active, blocked, precommit, committed, aborted, row_at, place_at, txn_at, version_in, row_with, with_row, with_place, with_txn, with_queue, with_pending, with_missing}
 use Rattle.protocol.specs.Database.{clash, ended, woken, stored}
 use Rattle.protocol.specs.Channel.{received, multicast, ready_home}
 use Rattle.protocol.specs.Scan.{scan_all}
@@ -15,7 +15,6 @@ use Rattle.protocol.specs.declared.Message.{Message}
 use Rattle.protocol.specs.declared.Message.TheVariants.{Remote, Ready, Commit, Abort}
 use Rattle.protocol.specs.declared.Action.{Action}
 use Rattle.protocol.specs.declared.Action.TheVariants.{Create, BeginOperation, EndOperation, BeginCommit, EndCommit, LocalAbort, Receive, ExecuteRemote, Discard}
-use Rattle.protocol.specs.declared.Channel.{Channel}
 use Rattle.protocol.specs.declared.Place.{Place}
 use Rattle.protocol.specs.declared.Txn.{Txn}
 use Rattle.protocol.specs.declared.Scan.{Scan}
@@ -37,15 +36,6 @@ with_here s i t h = with_txn (with_place (with_row s i h.row) i h.place) t h.txn
 -- the messages of a turn at site i: m about each of ts to all other sites, ready about each of rs to its home
 unfoldable pub posted : ℕ → Message → ℕ → ℕ → State → State
 posted i m ts rs s = ready_home i rs (multicast m i ts s)
-
--- the channel with a ready from site i about t
-abbrev pub readied : ℕ → ℕ → Channel → Channel
-readied i t c = record {
-  remote = c.remote;
-  ready = set c.ready t (with (ready_in c t) i);
-  commit = c.commit;
-  abort = c.abort;
-}
 
 -- the state after a turn at site i of transaction t
 abbrev pub after_turn : State → ℕ → ℕ → Turn → State

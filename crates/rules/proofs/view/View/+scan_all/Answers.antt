@@ -1,8 +1,7 @@
 -- An empty rest is left as it is; else the highest is taken.
-use Rattle.std.proofs.Common.{ℕ, ◌^◌, ◌<◌, ◌≡◌, Bool, true, false, sym, ap, ◌∙◌, arith, eqb-true}
+use Rattle.std.proofs.Common.{ℕ, ◌≡◌, Bool, true, false, sym, ◌∙◌, arith, eqb-true}
 use Rattle.std.proofs.lemmas.Bool.{eqb-false}
 use Rattle.sets.specs.Set.{is_empty}
-use Rattle.protocol.specs.Scan.{scan_one, scan_all}
 use Rattle.laws.specs.Order.{highest_in}
 use Rattle.laws.specs.Scan.{scan_falls, scan-nothing, scan-more}
 use Rattle.rules.proofs.view.View.+scan_all.Goals as goal
