@@ -123,6 +123,7 @@ fn refused(k: u32) -> Started
 }
 
 // The setup of a state into which n entries have been copied.
+#[tactic(auto, unfolding(protocol::specs::Setup::count_fine))]
 pub(crate) fn judged(sites: u32, n: usize, s: State) -> Started
     ensures { result ≡ judged_of sites n s }
 {
@@ -133,10 +134,11 @@ pub(crate) fn judged(sites: u32, n: usize, s: State) -> Started
         return refused(WRONG_COUNT);
     }
     let xs = s.txns;
-    if !homes_fine(sites, n, xs) {
+    let table = &xs[..n];
+    if !homes_fine(sites, table) {
         return refused(NO_HOME);
     }
-    if !priorities_differ(n, xs) {
+    if !priorities_differ(table) {
         return refused(EQUAL_PRIORITIES);
     }
     let rows = started_rows(n, xs);

@@ -3,7 +3,7 @@ ghost use Rattle.std.specs.Prelude.{◌≡◌, ◌<◌};
 ghost use Rattle.protocol.specs.State.{status_in, row_with};
 ghost use Rattle.protocol.specs.Lists.{store_at};
 
-use protocol::Row;
+use protocol::{IDLE, Row};
 
 // The status of transaction t.
 pub(crate) fn status_in(r: Row, t: usize) -> u8
@@ -12,6 +12,13 @@ pub(crate) fn status_in(r: Row, t: usize) -> u8
 {
     let status = r.status;
     status[t]
+}
+
+// The status of t; idle where there is no room for t.
+pub(crate) fn status_or_idle(r: &Row, t: usize) -> u8
+    ensures { result ≡ status_in r.now t }
+{
+    r.status.get(t).copied().unwrap_or(IDLE)
 }
 
 // The row with the status v for transaction t.

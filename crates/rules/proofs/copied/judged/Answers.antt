@@ -1,6 +1,7 @@
 -- The tests are those of the definition and in its order.
-use Rattle.std.proofs.Common.{arith}
+use Rattle.std.proofs.Common.{◌∙◌, arith}
 use Rattle.rules.proofs.Fresh.{holds, fails, few}
+use Rattle.rules.proofs.Ranges.{homes_of_first, priorities_of_first}
 use Rattle.rules.specs.Copied.{judged_by, judged_with, judged_of}
 use Rattle.rules.proofs.copied.judged.Goals as goal
 
@@ -17,9 +18,6 @@ returns-then-not-count_fine c =
       fails c.count_fine.ensures c.if-not-count_fine.true,
     )
 
-pub homes_fine-requires : goal.homes_fine-requires
-homes_fine-requires c = few _ (holds c.count_fine.ensures c.if-not-count_fine.false)
-
 pub returns-then-not-homes_fine : goal.returns-then-not-homes_fine
 unfolding judged_by judged_with judged_of
 returns-then-not-homes_fine c =
@@ -27,12 +25,8 @@ returns-then-not-homes_fine c =
       c.refused-then-not-homes_fine.ensures,
       holds c.sites_fine.ensures c.if-not-sites_fine.false,
       holds c.count_fine.ensures c.if-not-count_fine.false,
-      fails c.homes_fine.ensures c.if-not-homes_fine.true,
+      fails (c.homes_fine.ensures ∙ homes_of_first _ _ (omega (arith, few _ (holds c.count_fine.ensures c.if-not-count_fine.false))) _) c.if-not-homes_fine.true,
     )
-
-pub priorities_differ-requires : goal.priorities_differ-requires
-priorities_differ-requires c =
-    few _ (holds c.count_fine.ensures c.if-not-count_fine.false)
 
 pub returns-then-not-priorities_differ : goal.returns-then-not-priorities_differ
 unfolding judged_by judged_with judged_of
@@ -41,8 +35,8 @@ returns-then-not-priorities_differ c =
       c.refused-then-not-priorities_differ.ensures,
       holds c.sites_fine.ensures c.if-not-sites_fine.false,
       holds c.count_fine.ensures c.if-not-count_fine.false,
-      holds c.homes_fine.ensures c.if-not-homes_fine.false,
-      fails c.priorities_differ.ensures c.if-not-priorities_differ.true,
+      holds (c.homes_fine.ensures ∙ homes_of_first _ _ (omega (arith, few _ (holds c.count_fine.ensures c.if-not-count_fine.false))) _) c.if-not-homes_fine.false,
+      fails (c.priorities_differ.ensures ∙ priorities_of_first _ _ (omega (arith, few _ (holds c.count_fine.ensures c.if-not-count_fine.false)))) c.if-not-priorities_differ.true,
     )
 
 pub started_rows-rows-requires : goal.started_rows-rows-requires
@@ -60,6 +54,6 @@ returns c =
       c.started_rows-rows.ensures,
       holds c.sites_fine.ensures c.if-not-sites_fine.false,
       holds c.count_fine.ensures c.if-not-count_fine.false,
-      holds c.homes_fine.ensures c.if-not-homes_fine.false,
-      holds c.priorities_differ.ensures c.if-not-priorities_differ.false,
+      holds (c.homes_fine.ensures ∙ homes_of_first _ _ (omega (arith, few _ (holds c.count_fine.ensures c.if-not-count_fine.false))) _) c.if-not-homes_fine.false,
+      holds (c.priorities_differ.ensures ∙ priorities_of_first _ _ (omega (arith, few _ (holds c.count_fine.ensures c.if-not-count_fine.false)))) c.if-not-priorities_differ.false,
     )
