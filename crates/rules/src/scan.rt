@@ -11,7 +11,7 @@ use protocol::{ABORTED, BLOCKED, PRE_COMMIT, Row, Scan, Txn};
 fn makes_wait(x: Txn, y: Txn, i: usize, v: u8) -> bool
     ensures { result ≡ makes_wait x y i v }
 {
-    (y.home as usize != i) | ((v == PRE_COMMIT) & !outranks(x, y))
+    (y.home as usize != i) | ((v == PRE_COMMIT) & !outranks(&x, &y))
 }
 
 // Does one of them, the conflicts of t, make t wait?
@@ -108,15 +108,13 @@ pub(crate) fn scan_all(n: usize, xs: [Txn; 32], i: usize, c: Scan) -> Scan
     requires { n ≤ 32 }
     ensures { result ≡ scan_all n xs i c }
 {
-    if sets::is_empty(c.rest) {
-        c
+    let Some(t) = highest(&xs, c.rest) else {
+        return c;
+    };
+    let next = scan_one(n, xs, i, t, c);
+    if sets::is_empty(next.rest) {
+        next
     } else {
-        let t = highest(xs, c.rest);
-        let next = scan_one(n, xs, i, t, c);
-        if sets::is_empty(next.rest) {
-            next
-        } else {
-            scan_all(n, xs, i, next)
-        }
+        scan_all(n, xs, i, next)
     }
 }
