@@ -147,7 +147,7 @@ fn receive_refusal(m: Message, h: Here, t: usize) -> u32
     ensures { result ≡ receive_refusal m h t }
 {
     let row = h.row;
-    let v = status_in(row, t);
+    let v = status_in(&row, t);
     let x = h.txn;
     let p = h.place;
     let c = p.channel;
@@ -171,7 +171,7 @@ pub(crate) fn refusal(a: Action, clash: bool, t: usize, h: Here) -> u32
     ensures { result ≡ refusal_of a clash t h }
 {
     let row = h.row;
-    let v = status_in(row, t);
+    let v = status_in(&row, t);
     let x = h.txn;
     let p = h.place;
     match a {

@@ -62,7 +62,7 @@ pub(crate) fn clash(n: usize, xs: [Txn; 32], i: usize, r: Row, t: usize) -> bool
     let mut found = false;
     let mut u = 0usize;
     while u < n {
-        found = found | ((u != t) & clashes_with(x, xs[u], i, status_in(r, u)));
+        found = found | ((u != t) & clashes_with(x, xs[u], i, status_in(&r, u)));
         u = u + 1;
     }
     found
@@ -77,7 +77,7 @@ pub(crate) fn conflicts(n: usize, xs: [Txn; 32], i: usize, r: Row, t: usize) -> 
     let mut them = 0u32;
     let mut u = 0usize;
     while u < n {
-        let v = status_in(r, u);
+        let v = status_in(&r, u);
         if executes(v) {
             if (u != t) & conflicts_with(x, xs[u], i, v) {
                 them = sets::with(them, u);

@@ -6,7 +6,7 @@ ghost use Rattle.protocol.specs.Lists.{all_below, all_of, times};
 ghost use Rattle.protocol.specs.State.{row_at, place_at, txn_in, status_in};
 ghost use Rattle.protocol.specs.Range.{within, txn_fine, senders, statuses_fine, channel_fine, versions_fine, queue_fine, log_fine, site_fine, in_range};
 
-use crate::row::status_or_idle;
+use crate::row::status_in;
 use crate::table::{count_fine, homes_fine, priorities_differ, sites_fine};
 use protocol::{ABORTED, COMMITTED, Channel, IDLE, Place, Row, State, Txn};
 
@@ -38,7 +38,7 @@ fn txn_fine(sites: usize, n: usize, x: &Txn) -> bool
 fn statuses_fine(n: usize, r: &Row) -> bool
     ensures { result ≡ statuses_fine n r.now }
 {
-    (0..n).all(|t| status_or_idle(r, t) <= ABORTED)
+    (0..n).all(|t| status_in(r, t) <= ABORTED)
 }
 
 // Up to where a sender of a ready about t may reach: it is a site, and t is in the table.
@@ -82,7 +82,7 @@ fn queued_fine(xs: &[Txn], i: usize, r: &Row, q: u32) -> bool
     ensures { result ≡ all_below (length xs.now) (λ t. not (has q t) || (not ((txn_in xs.now t).home == i) && status_in r.now t == 0)) }
 {
     xs.iter().enumerate().all(|(t, x)| {
-        !sets::has(q, t) || (x.home as usize != i && status_or_idle(r, t) == IDLE)
+        !sets::has(q, t) || (x.home as usize != i && status_in(r, t) == IDLE)
     })
 }
 
@@ -112,7 +112,7 @@ fn times(t: usize, log: &[u8]) -> usize
 fn logged_once(n: usize, r: &Row, log: &[u8]) -> bool
     ensures { result ≡ all_below n (λ t. times t log.now == cond (status_in r.now t == 5) 1 0) }
 {
-    (0..n).all(|t| times(t, log) == usize::from(status_or_idle(r, t) == COMMITTED))
+    (0..n).all(|t| times(t, log) == usize::from(status_in(r, t) == COMMITTED))
 }
 
 // Does the log hold exactly the transactions committed at the site, each once?

@@ -5,46 +5,33 @@ ghost use Rattle.protocol.specs.Lists.{store_at};
 
 use protocol::{IDLE, Row};
 
-// The status of transaction t.
-pub(crate) fn status_in(r: Row, t: usize) -> u8
-    requires { t < 32 }
-    ensures { result ≡ status_in r t }
-{
-    let status = r.status;
-    status[t]
-}
-
-// The status of t; idle where there is no room for t.
-pub(crate) fn status_or_idle(r: &Row, t: usize) -> u8
+// The status of t, which is idle where the row has no room for t.
+pub(crate) fn status_in(r: &Row, t: usize) -> u8
     ensures { result ≡ status_in r.now t }
 {
     r.status.get(t).copied().unwrap_or(IDLE)
 }
 
 // The row with the status v for transaction t.
-pub(crate) fn row_with(r: Row, t: usize, v: u8) -> Row
+pub(crate) fn row_with(mut r: Row, t: usize, v: u8) -> Row
     requires { t < 32 }
     ensures { result ≡ row_with r t v }
 {
-    let mut n = r;
-    n.status[t] = v;
-    n
+    r.status[t] = v;
+    r
 }
 
 // The list with v at each place that is in m.
-pub(crate) fn store_at(m: u32, v: u8, l: [u8; 32]) -> [u8; 32]
+pub(crate) fn store_at(m: u32, v: u8, mut l: [u8; 32]) -> [u8; 32]
     ensures { result ≡ store_at m v l }
 {
     if sets::is_empty(m) {
         return l;
     }
-    let mut n = l;
-    let mut k = 0usize;
-    while k < 32 {
+    for (k, x) in l.iter_mut().enumerate() {
         if sets::has(m, k) {
-            n[k] = v;
+            *x = v;
         }
-        k = k + 1;
     }
-    n
+    l
 }

@@ -23,7 +23,7 @@ fn must_wait(n: usize, xs: [Txn; 32], i: usize, r: Row, t: usize, them: u32) -> 
     let mut found = false;
     let mut u = 0usize;
     while u < n {
-        found = found | (sets::has(them, u) & makes_wait(x, xs[u], i, status_in(r, u)));
+        found = found | (sets::has(them, u) & makes_wait(x, xs[u], i, status_in(&r, u)));
         u = u + 1;
     }
     found
@@ -50,7 +50,7 @@ fn asked(n: usize, r: Row, them: u32) -> u32
     let mut found = 0u32;
     let mut u = 0usize;
     while u < n {
-        if sets::has(them, u) & (status_in(r, u) == PRE_COMMIT) {
+        if sets::has(them, u) & (status_in(&r, u) == PRE_COMMIT) {
             found = sets::with(found, u);
         }
         u = u + 1;
