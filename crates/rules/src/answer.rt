@@ -154,8 +154,7 @@ pub(crate) fn misplaced(sites: u32, count: u32, e: Event, here: bool) -> Result<
 fn receive_refusal(m: Message, h: Here, t: Slot) -> Result<(), Refusal>
     ensures { answer_of result ≡ receive_refusal m h t }
 {
-    let row = h.row;
-    let v = status_in(row, t);
+    let v = status_in(&h.row, t.index());
     let x = h.txn;
     let p = h.place;
     let c = p.channel;
@@ -174,8 +173,7 @@ fn receive_refusal(m: Message, h: Here, t: Slot) -> Result<(), Refusal>
 pub(crate) fn refusal(a: Action, clash: bool, t: Slot, h: Here) -> Result<(), Refusal>
     ensures { answer_of result ≡ refusal_of a clash t h }
 {
-    let row = h.row;
-    let v = status_in(row, t);
+    let v = status_in(&h.row, t.index());
     let x = h.txn;
     let p = h.place;
     match a {

@@ -94,8 +94,9 @@ fn setup_refusal(sites: u32, n: usize, s: State) -> Result<(), Refusal>
 {
     demand(sites_fine(sites), Refusal::WrongSites)?;
     demand(count_fine(n), Refusal::WrongCount)?;
-    demand(homes_fine(sites, n, s.txns), Refusal::NoHome)?;
-    demand(priorities_differ(n, s.txns), Refusal::EqualPriorities)
+    let xs = &s.txns[..n];
+    demand(homes_fine(sites, xs), Refusal::NoHome)?;
+    demand(priorities_differ(xs), Refusal::EqualPriorities)
 }
 
 // The setup of a state into which n entries have been copied. A refused one gives the empty state.

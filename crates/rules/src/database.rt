@@ -66,7 +66,7 @@ impl View<'_> {
         let i = self.site;
         (0..self.count).any(|u| {
             u != t.index()
-                && clashes_with(&xs[t.index()], &xs[u], i, status_in(r, Slot::at(u)))
+                && clashes_with(&xs[t.index()], &xs[u], i, status_in(&r, u))
         })
     }
 
@@ -79,7 +79,7 @@ impl View<'_> {
         (0..self.count)
             .filter(|u| {
                 *u != t.index()
-                    && conflicts_with(&xs[t.index()], &xs[*u], i, status_in(r, Slot::at(*u)))
+                    && conflicts_with(&xs[t.index()], &xs[*u], i, status_in(&r, *u))
             })
             .fold(0, |them, u| sets::with(them, u))
     }

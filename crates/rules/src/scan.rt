@@ -14,7 +14,7 @@ use protocol::{ABORTED, BLOCKED, PRE_COMMIT, Row, Scan, Txn};
 fn makes_wait(x: &Txn, y: &Txn, i: usize, v: u8) -> bool
     ensures { result ≡ makes_wait x.now y.now i v }
 {
-    y.home as usize != i || (v == PRE_COMMIT && !outranks(*x, *y))
+    y.home as usize != i || (v == PRE_COMMIT && !outranks(x, y))
 }
 
 // t waits on.
@@ -36,7 +36,7 @@ impl View<'_> {
         let xs = self.txns;
         let i = self.site;
         (0..self.count).any(|u| {
-            sets::has(them, u) && makes_wait(&xs[t.index()], &xs[u], i, status_in(r, Slot::at(u)))
+            sets::has(them, u) && makes_wait(&xs[t.index()], &xs[u], i, status_in(&r, u))
         })
     }
 
@@ -45,7 +45,7 @@ impl View<'_> {
         ensures { result ≡ asked self.now.count r them }
     {
         (0..self.count)
-            .filter(|u| sets::has(them, *u) && status_in(r, Slot::at(*u)) == PRE_COMMIT)
+            .filter(|u| sets::has(them, *u) && status_in(&r, *u) == PRE_COMMIT)
             .fold(0, |found, u| sets::with(found, u))
     }
 
@@ -87,11 +87,9 @@ impl View<'_> {
     pub(crate) fn scan_all(&self, c: Scan) -> Scan
         ensures { result ≡ scan_all self.now.count self.now.txns.now self.now.site c }
     {
-        if sets::is_empty(c.rest) {
-            c
-        } else {
-            let t = Slot::at(highest(*self.txns, c.rest));
-            self.scan_all(self.scan_one(t, c))
-        }
+        let Some(t) = highest(self.txns, c.rest) else {
+            return c;
+        };
+        self.scan_all(self.scan_one(Slot::at(t), c))
     }
 }

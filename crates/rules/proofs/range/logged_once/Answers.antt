@@ -1,16 +1,6 @@
-use Rattle.std.proofs.Common.{arith}
-use Rattle.rules.proofs.Loops.{all_begun, all_turned, all_ended}
+use Rattle.std.proofs.Common.{rules, tests}
+use Rattle.rules.proofs.Ranges.{all_in_range}
 use Rattle.rules.proofs.range.logged_once.Goals as goal
 
-pub loop-t-init : goal.loop-t-init
-loop-t-init c = (omega arith, all_begun _)
-
-pub loop-t-preserved : goal.loop-t-preserved
-loop-t-preserved c = (
-  omega arith,
-  all_turned _ _ _ _ c.loop-t.invariant.1
-      (rw (c.same.ensures.0, c.times.ensures)),
-)
-
 pub returns : goal.returns
-returns c = all_ended _ _ _ _ (omega arith) (omega arith) c.loop-t.invariant.1
+returns c = all_in_range _ _ _ _ c.all.ensures.ran (λ x b q k. search (rules, tests))

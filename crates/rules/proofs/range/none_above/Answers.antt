@@ -1,12 +1,6 @@
-use Rattle.std.proofs.Common.{arith}
-use Rattle.rules.proofs.Loops.{all_begun, all_turned, all_ended}
+use Rattle.std.proofs.Common.{nat_le, rules, tests}
+use Rattle.rules.proofs.Ranges.{all_in_slice}
 use Rattle.rules.proofs.range.none_above.Goals as goal
 
-pub loop-o-init : goal.loop-o-init
-loop-o-init c = (omega arith, all_begun _)
-
-pub loop-o-preserved : goal.loop-o-preserved
-loop-o-preserved c = (omega arith, all_turned _ _ _ _ c.loop-o.invariant.1 (rw c.wide.ensures))
-
 pub returns : goal.returns
-returns c = all_ended _ _ _ _ (omega arith) (omega arith) c.loop-o.invariant.1
+returns c = all_in_slice 0 (λ v. nat_le v c.args.top) _ _ _ c.all.ensures.ran c.iter.ensures.rest (search rules) (λ x b q k. search (rules, tests))

@@ -1,12 +1,10 @@
-use Rattle.std.proofs.Common.{arith}
-use Rattle.rules.proofs.Loops.{all_begun, all_turned, all_ended}
+use Rattle.std.proofs.Common.{refl, ◌==◌, not, ◌&&◌, ◌||◌, rules, tests}
+use Rattle.sets.specs.Set.{has}
+use Rattle.protocol.specs.State.{no_txn, status_in}
+use Rattle.rules.proofs.Ranges.{all_in_places}
 use Rattle.rules.proofs.range.queued_fine.Goals as goal
 
-pub loop-t-init : goal.loop-t-init
-loop-t-init c = (omega arith, all_begun _)
-
-pub loop-t-preserved : goal.loop-t-preserved
-loop-t-preserved c = (omega arith, all_turned _ _ _ _ c.loop-t.invariant.1 (rw c.has.ensures))
-
 pub returns : goal.returns
-returns c = all_ended _ _ _ _ (omega arith) (omega arith) c.loop-t.invariant.1
+returns c =
+    all_in_places no_txn (λ t x. not (has c.args.q t) || (not (x.home == c.args.i) && status_in c.args.r.now t == 0)) _ _ _ c.all.ensures.ran (search rules) (search rules) refl
+    (λ x b q k. search (rules, tests))

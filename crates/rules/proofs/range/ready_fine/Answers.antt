@@ -1,16 +1,9 @@
-use Rattle.std.proofs.Common.{arith}
-use Rattle.rules.proofs.Loops.{all_begun, all_turned, all_ended}
+use Rattle.std.proofs.Common.{rules, tests}
+use Rattle.protocol.specs.Range.{within, senders}
+use Rattle.rules.proofs.Ranges.{all_in_places}
 use Rattle.rules.proofs.range.ready_fine.Goals as goal
 
-pub loop-t-init : goal.loop-t-init
-loop-t-init c = (omega arith, all_begun _)
-
-pub loop-t-preserved : goal.loop-t-preserved
-loop-t-preserved c = (
-  omega arith,
-  all_turned _ _ _ _ c.loop-t.invariant.1
-      (rw (c.within-fine.ensures, c.senders.ensures)),
-)
-
 pub returns : goal.returns
-returns c = all_ended _ _ _ _ (omega arith) (omega arith) c.loop-t.invariant.1
+returns c =
+    all_in_places 0 (λ t m. within (senders c.args.sites c.args.n t) m) _ _ _ c.all.ensures.ran (search rules) (search rules) (search rules)
+    (λ x b q k. search (rules, tests))

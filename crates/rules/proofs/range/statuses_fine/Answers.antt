@@ -1,14 +1,8 @@
-use Rattle.std.proofs.Common.{refl, arith}
+use Rattle.std.proofs.Common.{rules, tests}
 use Rattle.protocol.specs.Range.{statuses_fine}
-use Rattle.rules.proofs.Loops.{all_begun, all_turned, all_ended}
+use Rattle.rules.proofs.Ranges.{all_in_range}
 use Rattle.rules.proofs.range.statuses_fine.Goals as goal
-
-pub loop-t-init : goal.loop-t-init
-loop-t-init c = (omega arith, all_begun _)
-
-pub loop-t-preserved : goal.loop-t-preserved
-loop-t-preserved c = (omega arith, all_turned _ _ _ _ c.loop-t.invariant.1 refl)
 
 pub returns : goal.returns
 unfolding statuses_fine
-returns c = all_ended _ _ _ _ (omega arith) (omega arith) c.loop-t.invariant.1
+returns c = all_in_range _ _ _ _ c.all.ensures.ran (λ x b q k. search (rules, tests))

@@ -1,12 +1,10 @@
-use Rattle.std.proofs.Common.{arith}
-use Rattle.rules.proofs.Loops.{all_begun, all_turned, all_ended}
+use Rattle.std.proofs.Common.{refl, length, rules, tests}
+use Rattle.protocol.specs.Range.{txn_fine}
+use Rattle.protocol.specs.State.{no_txn}
+use Rattle.rules.proofs.Ranges.{all_in_slice}
 use Rattle.rules.proofs.range.txns_fine.Goals as goal
 
-pub loop-t-init : goal.loop-t-init
-loop-t-init c = (omega arith, all_begun _)
-
-pub loop-t-preserved : goal.loop-t-preserved
-loop-t-preserved c = (omega arith, all_turned _ _ _ _ c.loop-t.invariant.1 c.txn_fine-fine.ensures)
-
 pub returns : goal.returns
-returns c = all_ended _ _ _ _ (omega arith) (omega arith) c.loop-t.invariant.1
+returns c =
+    all_in_slice no_txn (λ x. txn_fine c.args.sites (length c.args.xs.now) x) _ _ _ c.all.ensures.ran c.iter.ensures.rest refl
+    (λ x b q k. search (rules, tests))

@@ -1,14 +1,9 @@
-use Rattle.std.proofs.Common.{refl, arith}
+use Rattle.std.proofs.Common.{nat_lt, refl, rules, tests}
 use Rattle.protocol.specs.Setup.{homes_fine}
-use Rattle.rules.proofs.Loops.{all_begun, all_turned, all_ended}
+use Rattle.protocol.specs.State.{no_txn}
+use Rattle.rules.proofs.Ranges.{all_in_slice}
 use Rattle.rules.proofs.table.homes_fine.Goals as goal
-
-pub loop-t-init : goal.loop-t-init
-loop-t-init c = (omega arith, all_begun _)
-
-pub loop-t-preserved : goal.loop-t-preserved
-loop-t-preserved c = (omega arith, all_turned _ _ _ _ c.loop-t.invariant.1 refl)
 
 pub returns : goal.returns
 unfolding homes_fine
-returns c = all_ended _ _ _ _ (omega arith) (omega arith) c.loop-t.invariant.1
+returns c = all_in_slice no_txn (λ x. nat_lt x.home c.args.sites) _ _ _ c.all.ensures.ran c.iter.ensures.rest refl (λ x b q k. search (rules, tests))
