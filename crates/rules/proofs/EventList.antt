@@ -1,33 +1,21 @@
--- The events that a list of numbers holds, one after the other, and what a run does from each on.
+-- The events that a list of numbers holds, one after the other: each is that of the next seven numbers.
 use Rattle.std.specs.Prelude.{slice_index_or}
-use Prim.Native.Nat.{ℕ, zero, suc, ◌+◌, ◌*◌, ◌/◌, ◌<◌}
-use mathlib.Core.Path.{◌≡◌, refl}
+use Rattle.std.specs.Simd.{first_chunks}
+use Prim.Native.Nat.{ℕ, zero, suc, ◌+◌, ◌/◌, ◌<◌}
+use mathlib.Core.Path.{◌≡◌, refl, sym, subst}
 use mathlib.Core.List.{List, [], ◌∷◌}
 use native.Mathlib.Omega.{arith}
 use lib.ListN.{length, drop}
 use Rattle.protocol.specs.Run.{events_of}
-use Rattle.rules.specs.Events.{event_at}
+use Rattle.rules.specs.Events.{event_in}
 
--- past the first event the numbers are those after the first seven
-module _ (a i t k f r w : ℕ) (l : List ℕ) where
-  past_seven : (x y : ℕ) → x ≡ suc (suc (suc (suc (suc (suc (suc y)))))) → slice_index_or (a ∷ i ∷ t ∷ k ∷ f ∷ r ∷ w ∷ l) x 0 ≡ slice_index_or l y 0
-  past_seven x y e = rw e
-
-  event-next : (j : ℕ) → event_at (a ∷ i ∷ t ∷ k ∷ f ∷ r ∷ w ∷ l) (suc j) ≡ event_at l j
-  unfolding event_at
-  event-next j = λ p. record {
-    action = past_seven (suc j * 7) (j * 7) (omega arith) p;
-    site = past_seven (suc j * 7 + 1) (j * 7 + 1) (omega arith) p;
-    txn = past_seven (suc j * 7 + 2) (j * 7 + 2) (omega arith) p;
-    kind = past_seven (suc j * 7 + 3) (j * 7 + 3) (omega arith) p;
-    from = past_seven (suc j * 7 + 4) (j * 7 + 4) (omega arith) p;
-    reads = past_seven (suc j * 7 + 5) (j * 7 + 5) (omega arith) p;
-    writes = past_seven (suc j * 7 + 6) (j * 7 + 6) (omega arith) p;
-  }
+abbrev pub chunks : List ℕ → List (List ℕ)
+chunks l = first_chunks 7 (length l / 7) l
 
 -- from event k on
-pub events_from : (l : List ℕ) (k : ℕ) → k < length l / 7 → drop k (events_of l) ≡ event_at l k ∷ drop (suc k) (events_of l)
-unfolding events_of event_at
+pub events_from : (l : List ℕ) (k : ℕ) → k < length l / 7
+    → drop k (events_of l) ≡ event_in (slice_index_or (chunks l) k []) ∷ drop (suc k) (events_of l)
+unfolding events_of
 events_from [] k h = absurd (omega arith)
 events_from (a ∷ []) k h = absurd (omega arith)
 events_from (a ∷ i ∷ []) k h = absurd (omega arith)
@@ -35,6 +23,12 @@ events_from (a ∷ i ∷ t ∷ []) k h = absurd (omega arith)
 events_from (a ∷ i ∷ t ∷ x ∷ []) k h = absurd (omega arith)
 events_from (a ∷ i ∷ t ∷ x ∷ f ∷ []) k h = absurd (omega arith)
 events_from (a ∷ i ∷ t ∷ x ∷ f ∷ r ∷ []) k h = absurd (omega arith)
-events_from (a ∷ i ∷ t ∷ x ∷ f ∷ r ∷ w ∷ l) zero h = refl
-events_from (a ∷ i ∷ t ∷ x ∷ f ∷ r ∷ w ∷ l) (suc k) h =
-    rw (event-next a i t x f r w l k) (events_from l k (omega arith))
+events_from (a ∷ i ∷ t ∷ x ∷ f ∷ r ∷ w ∷ l) k h =
+    let n : length (a ∷ i ∷ t ∷ x ∷ f ∷ r ∷ w ∷ l) / 7 ≡ suc (length l / 7) = omega arith in
+    subst (λ (m : ℕ). drop k (events_of (a ∷ i ∷ t ∷ x ∷ f ∷ r ∷ w ∷ l)) ≡ event_in (slice_index_or (first_chunks 7 m (a ∷ i ∷ t ∷ x ∷ f ∷ r ∷ w ∷ l)) k []) ∷ drop (suc k) (events_of (a ∷ i ∷ t ∷ x ∷ f ∷ r ∷ w ∷ l))) (sym n)
+    (go k h)
+  where
+    go : (k : ℕ) → k < length (a ∷ i ∷ t ∷ x ∷ f ∷ r ∷ w ∷ l) / 7
+        → drop k (events_of (a ∷ i ∷ t ∷ x ∷ f ∷ r ∷ w ∷ l)) ≡ event_in (slice_index_or (first_chunks 7 (suc (length l / 7)) (a ∷ i ∷ t ∷ x ∷ f ∷ r ∷ w ∷ l)) k []) ∷ drop (suc k) (events_of (a ∷ i ∷ t ∷ x ∷ f ∷ r ∷ w ∷ l))
+    go zero h = refl
+    go (suc k) h = events_from l k (omega arith)

@@ -4,6 +4,7 @@ pub mod Checks
 pub mod EventList
 pub mod Fresh
 pub mod Loops
+pub mod Made
 pub mod Ranges
 pub mod Running
 pub mod Sent

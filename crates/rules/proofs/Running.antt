@@ -13,18 +13,16 @@ use borrow.Author.Tests.{ltb-false}
 use Rattle.protocol.specs.State.{max_events}
 use Rattle.protocol.specs.Check.{first_of}
 use Rattle.protocol.specs.Range.{in_range}
-use Rattle.protocol.specs.Answer.{step}
-use Rattle.protocol.specs.Run.{state_after, sent_by, answers_of, run_checks, run_answer, run, answers_after}
+use Rattle.protocol.specs.Answer.{Stepped, step}
+use Rattle.protocol.specs.Run.{state_after, sent_by, answers_of, Ran, run_checks, run_answer, run, answers_after}
 use Rattle.protocol.specs.declared.Event.{Event}
 use Rattle.protocol.specs.declared.State.{State}
-use Rattle.protocol.specs.declared.Stepped.{Stepped}
-use Rattle.protocol.specs.declared.Ran.{Ran}
 use Rattle.laws.specs.Tests.{Test, yes_so, not_so, test}
 use Rattle.laws.specs.Shape.{Shaped}
 use Rattle.laws.specs.Enabled.{run-done, run-refused, answers_written, answers_kept}
 use Rattle.laws.specs.Ranged.{step_shaped, step_ranged}
 use Rattle.rules.specs.Events.{run_refusal}
-use Rattle.rules.proofs.Steps.{few_step}
+use Rattle.rules.proofs.Steps.{few_sent}
 
 module _ (s : State) (es : List Event) (old : List ℕ) where
   -- after k events: the state, the messages sent, and what the places for answers hold
@@ -35,7 +33,6 @@ module _ (s : State) (es : List Event) (old : List ℕ) where
     pub sum : sent_by s es ≡ sent + sent_by state (drop k es)
     pub answers : answers_of s es ≡ take k out ++ answers_of state (drop k es)
     pub beyond : drop k out ≡ drop k old
-    pub room : length out ≡ length old
 
   pub going_begun : Shaped s → in_range s ≡ true → Going 0 s 0 old
   going_begun h r = record {
@@ -45,16 +42,14 @@ module _ (s : State) (es : List Event) (old : List ℕ) where
     sum = omega arith;
     answers = refl;
     beyond = refl;
-    room = refl;
   }
 
   -- one event more
   pub going_turned : (k : ℕ) (state : State) (sent : ℕ) (out : List ℕ) (e : Event) (r : Stepped) → Going k state sent out
-      → drop k es ≡ e ∷ drop (suc k) es → k < length old → r ≡ step state e
+      → drop k es ≡ e ∷ drop (suc k) es → k < length out → r ≡ step state e
       → Going (k + 1) r.state (sent + r.sent) (set out k r.answer)
   unfolding state_after sent_by answers_of
-  going_turned k state sent out e r g d l q =
-      let here : k < length out = omega (arith, g.room) in
+  going_turned k state sent out e r g d here q =
       let next : drop (suc k) out ≡ drop (suc k) old =
       ap (λ (n : ℕ). drop n out) (sym (add-one k)) ∙ sym (drop-drop 1 k out) ∙ ap (drop 1) g.beyond ∙ drop-drop 1 k old
       ∙ ap (λ (n : ℕ). drop n old) (add-one k) in
@@ -71,7 +66,6 @@ module _ (s : State) (es : List Event) (old : List ℕ) where
             ∙ sym (ap (λ (x : List ℕ). x ++ answers_of (step state e).state (drop (suc k) es)) (take-suc-set out k (step state e).answer here)
             ∙ append_assoc (take k out) ((step state e).answer ∷ []) (answers_of (step state e).state (drop (suc k) es)));
         beyond = drop-set-lt (suc k) out k (step state e).answer (le_refl (suc k)) ∙ next;
-        room = length-set out k (step state e).answer ∙ g.room;
       })
 
   -- all events
@@ -139,15 +133,3 @@ module _ (s : State) (es : List Event) (old : List ℕ) (n : ℕ) (k : ℕ) (cou
   completed z r out p q =
       let yes : run_answer s es (length old) ≡ 0 = answer_is ∙ z in
       (p ∙ sym (run-done s es (length old) yes), q ∙ sym (answers_written s es old yes))
-
--- ---- a run of one event
-
-module _ (s : State) (e : Event) (rest out : List ℕ) (q : out ≡ answers_of s (e ∷ []) ++ rest) where
-  pub first-answer : slice_index_or out 0 0 ≤ 11
-  unfolding answers_of
-  first-answer = rw q (few_step s e (step s e) refl).1
-
-  pub one_event : (r : Ran) → r ≡ record { answer = 0; sent = sent_by s (e ∷ []); state = state_after s (e ∷ []) }
-      → record { answer = slice_index_or out 0 0; sent = r.sent; state = r.state } ≡ step s e
-  unfolding state_after sent_by answers_of
-  one_event r p = rw (q, p, add-zero (step s e).sent)

@@ -11,7 +11,7 @@ use Rattle.protocol.specs.declared.Txn.{Txn}
 use Rattle.protocol.specs.declared.State.{State}
 
 -- a transaction with the home and the priority of an entry
-unfoldable pub from_entry : Txn → Entry → Txn
+abbrev pub from_entry : Txn → Entry → Txn
 from_entry x e = record {
   home = e.home;
   priority = e.priority;
@@ -28,14 +28,14 @@ abbrev pub entry_of : Txn → Entry
 entry_of x = record { home = x.home; priority = x.priority }
 
 -- the row of site i, and the rows of all sites, when the first n transactions begin, each at its home
-unfoldable pub started_row : ℕ → (ℕ → ℕ) → ℕ → Row
+abbrev pub started_row : ℕ → (ℕ → ℕ) → ℕ → Row
 started_row n home i = record { status = table max_txns (λ t. cond (nat_lt t n && home t == i) start idle) }
 
-unfoldable pub started_rows : ℕ → (ℕ → ℕ) → List Row
+abbrev pub started_rows : ℕ → (ℕ → ℕ) → List Row
 started_rows n home = table max_sites (started_row n home)
 
 -- the number of the first of setup's tests that n entries e 0, e 1, .. fail, or 0
-unfoldable pub refusal_with : ℕ → ℕ → (ℕ → Entry) → ℕ
+abbrev pub refusal_with : ℕ → ℕ → (ℕ → Entry) → ℕ
 refusal_with sites n e =
     first_of
     (given 21 (not (sites_fine sites))
@@ -45,7 +45,7 @@ refusal_with sites n e =
     ∷ [])
 
 -- the state that begins with n entries e 0, e 1, .. which have been copied into s
-unfoldable pub begun_with : ℕ → ℕ → (ℕ → Entry) → State → State
+abbrev pub begun_with : ℕ → ℕ → (ℕ → Entry) → State → State
 begun_with sites n e s = record {
   sites = sites;
   count = n;
@@ -55,7 +55,7 @@ begun_with sites n e s = record {
 }
 
 -- what setup gives for them; "A refused setup returns its number and the empty state"
-unfoldable pub judged_with : ℕ → ℕ → (ℕ → Entry) → State → Started
+abbrev pub judged_with : ℕ → ℕ → (ℕ → Entry) → State → Started
 judged_with sites n e s = record {
   answer = refusal_with sites n e;
   state = cond (refusal_with sites n e == 0) (begun_with sites n e s) empty_state;

@@ -4,13 +4,16 @@ ghost use Rattle.protocol.specs.State.{empty_state, txn_in};
 ghost use Rattle.protocol.specs.Refusals.{answer_of, started};
 ghost use Rattle.rules.specs.Copied.{from_entry, started_row, started_rows, setup_refusal, judged_of};
 
+use std::array;
+
 use crate::answer::demand;
 use crate::table::{count_fine, homes_fine, priorities_differ, sites_fine};
 use protocol::{
-    Answered, Channel, Entry, Log, Place, Refusal, Row, SITES, START, State, Txn,
+    Answered, Channel, Entry, IDLE, Log, Place, Refusal, Row, SITES, START, State, Txn,
 };
 
 // The empty state.
+#[tactic(auto, unfolding(protocol::specs::State::empty_state))]
 pub(crate) fn blank() -> State
     ensures { result ≡ empty_state }
 {
@@ -68,27 +71,21 @@ pub(crate) fn with_entry(x: Txn, e: Entry) -> Txn
 
 // The row of site i in a fresh state: start for those of the first n that have their home there.
 fn started_row(n: usize, xs: [Txn; 32], i: usize) -> Row
-    requires { n ≤ 32 }
     ensures { result ≡ started_row n (λ t. (txn_in xs t).home) i }
 {
-    let mut status = [0u8; 32];
-    for t in 0..n {
-        if xs[t].home as usize == i {
-            status[t] = START;
-        }
-    }
+    let status = array::from_fn(|t| if t < n && xs[t].home as usize == i { START } else { IDLE });
     Row { status }
 }
 
 // The rows of a fresh state.
 fn started_rows(n: usize, xs: [Txn; 32]) -> [Row; SITES]
-    requires { n ≤ 32 }
     ensures { result ≡ started_rows n (λ t. (txn_in xs t).home) }
 {
-    std::array::from_fn(|i| started_row(n, xs, i))
+    array::from_fn(|i| started_row(n, xs, i))
 }
 
 // Why a setup of n entries is refused, which have been copied into the state.
+#[tactic(auto, using(crate::proofs::Fresh::few), unfolding(protocol::specs::Check::first_of))]
 fn setup_refusal(sites: u32, n: usize, s: State) -> Result<(), Refusal>
     ensures { answer_of result ≡ setup_refusal sites n s }
 {
@@ -100,6 +97,7 @@ fn setup_refusal(sites: u32, n: usize, s: State) -> Result<(), Refusal>
 }
 
 // The setup of a state into which n entries have been copied. A refused one gives the empty state.
+#[tactic(auto, using(crate::proofs::Fresh::few, crate::proofs::Fresh::few_accepted))]
 pub(crate) fn judged(sites: u32, n: usize, s: State) -> Answered<()>
     ensures { started result ≡ judged_of sites n s }
 {

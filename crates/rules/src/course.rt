@@ -3,7 +3,7 @@ ghost use Rattle.std.specs.Prelude.{◌≡◌, true, ◌++◌, ◌/◌, ◌<◌,
 ghost use Rattle.protocol.specs.Range.{in_range};
 ghost use Rattle.protocol.specs.Answer.{step};
 ghost use Rattle.protocol.specs.Run.{events_of, state_after, sent_by, answers_of};
-ghost use Rattle.protocol.specs.Refusals.{answer_of, sent_of};
+ghost use Rattle.protocol.specs.Refusals.{answer_of, sent_of, ran};
 ghost use Rattle.rules.specs.Turn.{after_turn, told_of};
 
 use crate::asking::{asks_table, consulted, untold};
@@ -13,7 +13,7 @@ use crate::slot::Slot;
 use crate::stepping::{index, turn_of};
 use crate::view::View;
 use crate::{Here, Told, Turn};
-use protocol::{Event, Refusal, State};
+use protocol::{Answered, Event, Refusal, State};
 
 // What the table of transactions tells an event at site i of transaction t, where h is what stands there.
 #[tactic(auto, using(crate::proofs::Turns::told_nothing))]
@@ -65,17 +65,16 @@ pub(crate) fn taken(s: &mut State, e: Event) -> Result<u32, Refusal>
     Ok(d.sent)
 }
 
-// Takes the events, seven numbers each, past refused ones, writes one answer an event, and says how many messages they sent.
-pub(crate) fn performed(s: &mut State, events: &[u32], answers: &mut [u8]) -> u32
-    requires { (in_range s.old ≡ true) × (length events.now / 7 ≤ 1024) × (length events.now / 7 ≤ length answers.old) }
-    ensures sum { result ≡ sent_by s.old (events_of events.now) }
-    ensures last { s.new ≡ state_after s.old (events_of events.now) }
-    ensures written { answers.new ≡ answers_of s.old (events_of events.now) ++ drop (length (events_of events.now)) answers.old }
+// Takes the events, seven numbers each, past refused ones, and writes one answer an event.
+pub(crate) fn performed(s: State, events: &[u32], answers: &mut [u8]) -> Answered<u32>
+    requires { (in_range s ≡ true) × (length events.now / 7 ≤ 1024) × (length events.now / 7 ≤ length answers.old) }
+    ensures { (ran result ≡ record { answer = 0; sent = sent_by s (events_of events.now); state = state_after s (events_of events.now) }) × (answers.new ≡ answers_of s (events_of events.now) ++ drop (length (events_of events.now)) answers.old) }
 {
     let (chunks, _) = events.as_chunks::<7>();
+    let mut state = s;
     let mut sent = 0;
     for (k, chunk) in chunks.iter().enumerate() {
-        answers[k] = match taken(s, event_in(*chunk)) {
+        answers[k] = match taken(&mut state, event_in(*chunk)) {
             Ok(n) => {
                 sent += n;
                 0
@@ -83,5 +82,8 @@ pub(crate) fn performed(s: &mut State, events: &[u32], answers: &mut [u8]) -> u3
             Err(refusal) => u8::from(refusal),
         };
     }
-    sent
+    Answered {
+        outcome: Ok(sent),
+        state,
+    }
 }

@@ -26,6 +26,8 @@ pub(crate) mod stepping;
 pub(crate) mod table;
 pub(crate) mod view;
 
+use std::array;
+
 use crate::answer::demand;
 use crate::copied::{blank, judged, with_entry};
 use crate::course::{performed, taken};
@@ -64,11 +66,9 @@ pub(crate) struct Turn {
 pub fn setup(sites: u32, table: &[Entry]) -> Answered<()>
     ensures { started result ≡ setup sites table.now }
 {
-    let mut state = blank();
-    for (t, e) in table.iter().take(32).enumerate() {
-        state.txns[t] = with_entry(state.txns[t], *e);
-    }
-    judged(sites, table.len(), state)
+    let empty = blank();
+    let txns = array::from_fn(|t| if t < table.len() { with_entry(empty.txns[t], table[t]) } else { empty.txns[t] });
+    judged(sites, table.len(), State { txns, ..empty })
 }
 
 // The same for a caller that holds its entries by value, of which the first n count.
@@ -108,10 +108,11 @@ fn run_refusal(n: usize, room: usize, s: State) -> Result<(), Refusal>
 pub fn run(s: State, events: &[u32], answers: &mut [u8]) -> Answered<u32>
     ensures { (ran result ≡ run s (events_of events.now) (length answers.old)) × (answers.new ≡ answers_after s (events_of events.now) answers.old) }
 {
-    let mut state = s;
-    let outcome = match run_refusal(events.len() / 7, answers.len(), s) {
-        Ok(()) => Ok(performed(&mut state, events, answers)),
-        Err(refusal) => Err(refusal),
-    };
-    Answered { outcome, state }
+    match run_refusal(events.len() / 7, answers.len(), s) {
+        Ok(()) => performed(s, events, answers),
+        Err(refusal) => Answered {
+            outcome: Err(refusal),
+            state: s,
+        },
+    }
 }
