@@ -93,21 +93,16 @@ fn multicast(m: Message, sites: u32, ts: u32, ps: &mut [Place; SITES])
     }
 }
 
-// Those of ts that have their home at site j.
-fn homed_at(xs: &[Txn; 32], ts: u32, j: usize) -> u32
-    ensures { result ≡ homed_at xs.now ts j }
-{
-    (0..32)
-        .filter(|t| sets::has(ts, *t) && xs[*t].home as usize == j)
-        .fold(0, |them, t| sets::with(them, t))
-}
-
 // Sends ready from site i about each transaction of ts to its home.
 fn ready_home(i: usize, ts: u32, xs: &[Txn; 32], ps: &mut [Place; SITES])
     ensures { ps.new ≡ delivered (Message.Ready i) (homed_at xs.now ts) ps.old }
 {
-    for (j, p) in ps.iter_mut().enumerate() {
-        ready_with(&mut p.channel.ready, homed_at(xs, ts, j), i);
+    for (t, x) in xs.iter().enumerate() {
+        let j = x.home as usize;
+        if sets::has(ts, t) && j < SITES {
+            let from = &mut ps[j].channel.ready[t];
+            *from = sets::with(*from, i);
+        }
     }
 }
 
