@@ -28,7 +28,7 @@ use Rattle.rules.proofs.Loops.{from_same, those-none, those_turned, those_passed
 union-none : (a : ℕ) → union a none ≡ a
 union-none a = ext (union a none) a (λ k. simp (has-union, has-none, or-false))
 
-put-none : (m : Message) (c : Channel) → put m none c ≡ c
+pub put-none : (m : Message) (c : Channel) → put m none c ≡ c
 unfolding put ready_with
 put-none Remote c = rw (union-none c.remote)
 put-none (Ready k) c = rw (from_same (λ t from. cond (has none t) (with from k) from) (λ t x. rw (has-none t)) 0 c.ready)

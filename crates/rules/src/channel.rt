@@ -61,7 +61,9 @@ fn ready_with(ready: &mut [u32; 32], ts: u32, k: usize)
     ensures { ready.new ≡ ready_with ready.old ts k }
 {
     for (t, from) in ready.iter_mut().enumerate() {
-        *from = if sets::has(ts, t) { sets::with(*from, k) } else { *from };
+        if sets::has(ts, t) {
+            *from = sets::with(*from, k);
+        }
     }
 }
 
@@ -77,19 +79,14 @@ fn put(m: Message, ts: u32, c: &mut Channel)
     }
 }
 
-// What of ts goes to site j, where the message goes to these sites.
-fn meant(sites: u32, ts: u32, j: usize) -> u32
-    ensures { result ≡ cond (has sites j) ts none }
-{
-    if sets::has(sites, j) { ts } else { 0 }
-}
-
 // Sends the message about each transaction of ts to each of these sites.
 fn multicast(m: Message, sites: u32, ts: u32, ps: &mut [Place; SITES])
     ensures { ps.new ≡ delivered m (λ j. cond (has sites j) ts none) ps.old }
 {
     for (j, p) in ps.iter_mut().enumerate() {
-        put(m, meant(sites, ts, j), &mut p.channel);
+        if sets::has(sites, j) {
+            put(m, ts, &mut p.channel);
+        }
     }
 }
 
