@@ -10,7 +10,7 @@ use native.Mathlib.Omega.{arith}
 use lib.ListN.{length, set, length-set}
 use lib.Seq.{get_or-set_same, get_or-set_other, ext_get_or}
 use borrow.Author.Tests.{lt-ltb, le-ltb, ltb-true, ltb-false}
-use Rattle.sets.specs.Set.{has, none, is_empty, those}
+use Rattle.sets.specs.Set.{has, none, is_empty, with, with_in, those}
 use Rattle.sets.specs.Laws.{empty_none}
 use Rattle.protocol.specs.Lists.{each_from, each, store_at, all_below}
 use Rattle.laws.specs.Tests.{Test, yes_so, not_so, test, Same, same, other, same?}
@@ -102,9 +102,19 @@ unfolding those
 those-none zero p h = refl
 those-none (suc n) p h = rw (h n) (those-none n p h)
 
--- ---- loops that test
-
 module _ (p : ℕ → Bool) where
+  -- a turn that adds k
+  pub those_turned : (k w w' : ℕ) → k < 32 → w ≡ those k p → p k ≡ true → w' ≡ with w k → w' ≡ those (k + 1) p
+  unfolding those with_in
+  those_turned k w w' h e t q = rw (add-one k, t) (q ∙ rw (lt-ltb k 32 h, e))
+
+  -- a turn that does not
+  pub those_passed : (k w : ℕ) → w ≡ those k p → p k ≡ false → w ≡ those (k + 1) p
+  unfolding those
+  those_passed k w e t = rw (add-one k, t) e
+
+  -- ---- loops that test
+
   pub all_begun : true ≡ all_below 0 p
   unfolding all_below
   all_begun = refl

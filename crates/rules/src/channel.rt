@@ -61,7 +61,9 @@ fn ready_with(ready: &mut [u32; 32], ts: u32, k: usize)
     ensures { ready.new ≡ ready_with ready.old ts k }
 {
     for (t, from) in ready.iter_mut().enumerate() {
-        *from = if sets::has(ts, t) { sets::with(*from, k) } else { *from };
+        if sets::has(ts, t) {
+            *from = sets::with(*from, k);
+        }
     }
 }
 
@@ -77,37 +79,27 @@ fn put(m: Message, ts: u32, c: &mut Channel)
     }
 }
 
-// What of ts goes to site j, where the message goes to these sites.
-fn meant(sites: u32, ts: u32, j: usize) -> u32
-    ensures { result ≡ cond (has sites j) ts none }
-{
-    if sets::has(sites, j) { ts } else { 0 }
-}
-
 // Sends the message about each transaction of ts to each of these sites.
 fn multicast(m: Message, sites: u32, ts: u32, ps: &mut [Place; SITES])
     ensures { ps.new ≡ delivered m (λ j. cond (has sites j) ts none) ps.old }
 {
     for (j, p) in ps.iter_mut().enumerate() {
-        put(m, meant(sites, ts, j), &mut p.channel);
+        if sets::has(sites, j) {
+            put(m, ts, &mut p.channel);
+        }
     }
-}
-
-// Those of ts that have their home at site j.
-fn homed_at(xs: &[Txn; 32], ts: u32, j: usize) -> u32
-    ensures { result ≡ homed_at xs.now ts j }
-{
-    (0..32)
-        .filter(|t| sets::has(ts, *t) && xs[*t].home as usize == j)
-        .fold(0, |them, t| sets::with(them, t))
 }
 
 // Sends ready from site i about each transaction of ts to its home.
 fn ready_home(i: usize, ts: u32, xs: &[Txn; 32], ps: &mut [Place; SITES])
     ensures { ps.new ≡ delivered (Message.Ready i) (homed_at xs.now ts) ps.old }
 {
-    for (j, p) in ps.iter_mut().enumerate() {
-        ready_with(&mut p.channel.ready, homed_at(xs, ts, j), i);
+    for (t, x) in xs.iter().enumerate() {
+        let j = x.home as usize;
+        if sets::has(ts, t) && j < SITES {
+            let from = &mut ps[j].channel.ready[t];
+            *from = sets::with(*from, i);
+        }
     }
 }
 

@@ -93,7 +93,9 @@ fn noted(x: Txn, p: Place) -> [u8; 32]
     let first = sets::minus(x.pendingreads, sets::union(x.reads, x.writes));
     let mut l = x.noted;
     for (o, v) in l.iter_mut().enumerate() {
-        *v = if sets::has(first, o) { p.versions[o] + 1 } else { *v };
+        if sets::has(first, o) {
+            *v = p.versions[o] + 1;
+        }
     }
     l
 }

@@ -1,10 +1,7 @@
--- The sites before j have what the definition puts there.
+-- The ready messages about the transactions before t have gone out.
 use Rattle.std.proofs.Common.{◌≡◌}
-use Rattle.protocol.specs.Channel.{put, homed_at}
-use Rattle.protocol.specs.State.{with_channel}
-use Rattle.protocol.specs.declared.Message.TheVariants.{Ready}
-use Rattle.rules.proofs.Loops.{each_to}
+use Rattle.rules.proofs.Sent.{readied_to}
 use Rattle.rules.proofs.channel.ready_home.Given as goal
 
-abbrev pub invariant-loop-j : goal.invariant-loop-j
-invariant-loop-j l = l.ps ≡ each_to (λ j p. with_channel p (put (Ready l.i) (homed_at l.xs l.ts j) p.channel)) l.j l.initial.ps
+abbrev pub invariant-loop-t : goal.invariant-loop-t
+invariant-loop-t l = l.ps ≡ readied_to l.i l.xs l.ts l.t l.initial.ps

@@ -8,11 +8,11 @@ pub loop-t-init : goal.loop-t-init
 loop-t-init c = each_begun _ 0 _
 
 pub loop-t-preserved : goal.loop-t-preserved
-loop-t-preserved c = each_again _ 0 _ _ _ _ c.loop-t.invariant (omega arith)
-    (elim c.if-has.branch [
-      | then-has w ↦ w.from-is ∙ rw (← c.has.ensures, w.if-has.true) w.with.ensures
-      | else-has w ↦ w.from-is ∙ rw (← c.has.ensures, w.if-has.false)
-    ])
+loop-t-preserved c =
+    elim c.if-has.branch [
+      | then-has w ↦ w.ready-is ∙ each_again _ 0 _ _ _ _ c.loop-t.invariant (omega arith) (rw (← c.has.ensures, w.if-has.true) w.with.ensures)
+      | else-has w ↦ w.ready-is ∙ each_again _ 0 _ _ _ _ c.loop-t.invariant (omega arith) (rw (← c.has.ensures, w.if-has.false))
+    ]
 
 pub returns : goal.returns
 unfolding ready_with
