@@ -76,19 +76,12 @@ sought_from s r at b m h e f =
 eq_turned : (m n : ℕ) → (m == n) ≡ nat_eq n m
 eq_turned m n = grind (arith, nat_tests)
 
--- byte by byte, as the library's `starts_with` compares ..
+-- byte by byte, as the library's `starts_with` compares
 pub starts_is : (key s : List ℕ) → starts key s ≡ pointwise nat_eq key (take (length key) s)
 unfolding starts
 starts_is [] s = refl
 starts_is (k ∷ key) [] = refl
 starts_is (k ∷ key) (x ∷ s) = ap₂ ◌&&◌ (eq_turned x k) (starts_is key s)
-
--- .. and as its `strip_prefix` does
-pub prefix_is : (key s : List ℕ) → starts key s ≡ pointwise nat_eq (take (length key) s) key
-unfolding starts
-prefix_is [] s = refl
-prefix_is (k ∷ key) [] = refl
-prefix_is (k ∷ key) (x ∷ s) = ap (λ (t : Bool). x == k && t) (prefix_is key s)
 
 -- ---- seven values
 

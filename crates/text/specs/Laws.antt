@@ -1,10 +1,11 @@
 -- What follows from the definitions: a decimal is read as n where, and only where, it is the writing of n; where the
 -- parts of a list lie, and that they make it up; and that a line has the value n where, and only where, it is the key and
 -- the writing of n.
-use Rattle.std.specs.Prelude.{◌≡◌, refl, Bool, true, false, cond, ◌&&◌, Option, Some, None, List, [], ◌∷◌, ◌++◌, map, ◌⊎◌, ℕ, zero, suc, ◌+◌, ◌-◌, ◌*◌, ◌/◌, ◌%◌, ◌^◌, ◌≤◌, ◌<◌, min, length, take, drop, set, ◌==◌, nat_le, nat_lt, slice_index_or}
+use Rattle.std.specs.Prelude.{◌≡◌, refl, Bool, true, false, cond, ◌&&◌, Option, Some, None, List, [], ◌∷◌, ◌++◌, map, ◌⊎◌, ℕ, zero, suc, ◌+◌, ◌-◌, ◌*◌, ◌/◌, ◌%◌, ◌^◌, ◌≤◌, ◌<◌, min, length, take, drop, set, ◌==◌, nat_eq, nat_le, nat_lt, slice_index_or}
 use Rattle.std.proofs.Common.{sym, ap, ap₂, ◌∙◌, append_assoc, append-nil, inl, inr, ⊎_elim, pow-suc, add-one, arith, length-append, length-drop, take_all, take-suc-set, drop-drop, lt-ltb, le-ltb, le-leb, eq-eqb, ne_eqb, leb-true, ltb-true, ltb-false, eqb-true}
 use Rattle.std.proofs.lemmas.Bool.{false≢true, eqb-false}
 use Rattle.std.specs.Option.{option_map, option_and_then}
+use Rattle.std.specs.Cmp.Lexicographic.{pointwise}
 use Rattle.std.proofs.lemmas.List.{map-append, length-map}
 use Rattle.std.proofs.Math.Arith.{lt_of_le-ne}
 use Rattle.std.proofs.Math.ListN.{get_or-append}
@@ -75,14 +76,14 @@ no : (n : ℕ) → None ≡ Some n → ⊥
 no n e = let z : ◌≡◌ {A = ℕ} 0 1 = cc in omega arith
 
 -- what is known of a byte b where the number v goes on to n with it and the rest
-record Digit (v b n : ℕ) (l : List ℕ) : Type 0 where
-  low : 48 ≤ b
-  high : b ≤ 57
-  fits : v * 10 + (b - 48) < 4294967296
-  rest : goes_on (v * 10 + (b - 48)) l ≡ Some n
+pub record Digit (v b n : ℕ) (l : List ℕ) : Type 0 where
+  pub low : 48 ≤ b
+  pub high : b ≤ 57
+  pub fits : v * 10 + (b - 48) < 4294967296
+  pub rest : goes_on (v * 10 + (b - 48)) l ≡ Some n
 
 -- where a number goes on, the next byte is a digit and it fits
-went_on : (v b n : ℕ) (l : List ℕ) → goes_on v (b ∷ l) ≡ Some n → Digit v b n l
+pub went_on : (v b n : ℕ) (l : List ℕ) → goes_on v (b ∷ l) ≡ Some n → Digit v b n l
 unfolding goes_on
 went_on v b n l e = go (nat_le 48 b) (nat_le b 57) (nat_lt (v * 10 + (b - 48)) 4294967296) refl refl refl e
   where
@@ -433,6 +434,13 @@ joined-parts b (x ∷ l) = go (x == b) refl (parts b l) (parts_some b l) (joined
     go false e (p ∷ q ∷ ps) h r = ap (λ (m : List ℕ). x ∷ m) r
 
 -- ---- a key and a decimal
+
+-- a line starts with a key byte by byte, as the library's `strip_prefix` compares
+pub prefix_is : (key s : List ℕ) → starts key s ≡ pointwise nat_eq (take (length key) s) key
+unfolding starts
+prefix_is [] s = refl
+prefix_is (k ∷ key) [] = refl
+prefix_is (k ∷ key) (x ∷ s) = ap (λ (t : Bool). x == k && t) (prefix_is key s)
 
 -- a key and more starts with the key
 pub starts_key : (key l : List ℕ) → starts key (key ++ l) ≡ true

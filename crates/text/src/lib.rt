@@ -57,7 +57,7 @@ pub fn starts(s: &[u8], key: &[u8]) -> bool
 }
 
 // The value of a line that is the key and one decimal.
-#[tactic(auto, using(crate::proofs::Steps::prefix_is), unfolding(crate::specs::Line::value_of))]
+#[tactic(auto, using(crate::specs::Laws::prefix_is), unfolding(crate::specs::Line::value_of))]
 pub fn value(s: &[u8], key: &[u8]) -> Option<u32>
     ensures { result ≡ value_of key.now s.now }
 {
