@@ -1,10 +1,10 @@
 -- What one pass over a text finds at a place: a decimal digit by digit, and a line value by value.
-use Rattle.std.specs.Prelude.{slice_index_or}
+use Rattle.std.specs.Prelude.{slice_index_or, Some}
 use Rattle.std.proofs.Common.{◌≡◌, ℕ, ◌+◌, ◌-◌, ◌*◌, ◌<◌, ◌≤◌, true, List, [], ◌∷◌, ◌++◌, map, length, take, drop, set, sym, refl, ap, ◌∙◌, append_assoc, append-nil, add-one, arith, length-set, take_all, drop-cons, drop-drop}
-use Rattle.text.specs.Decimal.{number_of, digits}
+use Rattle.std.proofs.lemmas.Option.{same_Some}
+use Rattle.text.specs.Decimal.{goes_on, number_of, digits}
 use Rattle.text.specs.Line.{before, parts, starts}
-use Rattle.text.specs.Laws.{digits_low, digits_more, digits_lacks, lacks_both, read_back, parts_last, parts_then, key_starts, fields_seven, value_more}
-use Rattle.text.specs.declared.Number.TheVariants.{Is}
+use Rattle.text.specs.Laws.{went_on, digits_low, digits_more, digits_lacks, lacks_both, read_back, parts_last, parts_then, key_starts, fields_seven, value_more}
 use Rattle.scenario.specs.Front.{Front, NumberAt, FieldsAt}
 
 -- ---- one thing after another
@@ -33,19 +33,30 @@ pub record Digits (s : List ℕ) (at v i : ℕ) : Type 0 where
   pub front : Front s at (digits v) i
 
 -- a digit alone
-pub digit-first : (s : List ℕ) (at v : ℕ) → at < length s → slice_index_or s at 0 ≡ 48 + v → v < 10 → Digits s at v (at + 1)
-digit-first s at v h e g = record { small = omega arith; front = rw (digits_low v g) (front_byte s at (48 + v) h e) }
+pub digit-first : (s : List ℕ) (at v x : ℕ) → at < length s → slice_index_or s at 0 ≡ x → Some v ≡ goes_on 0 (x ∷ [])
+    → Digits s at v (at + 1)
+unfolding goes_on
+digit-first s at v x h b e =
+    let d = went_on 0 x v [] (sym e) in
+    let w : x ≡ 48 + v = omega (arith, same_Some _ _ d.rest, d.low) in
+    record {
+      small = omega (arith, d.high);
+      front = rw (digits_low v (omega (arith, d.high))) (front_byte s at (48 + v) h (b ∙ w));
+    }
 
 module _ {s : List ℕ} {at v i : ℕ} (r : Digits s at v i) (h : i < length s) where
   -- one digit more
-  pub digit-next : (w : ℕ) → 0 < v → 48 ≤ slice_index_or s i 0 → slice_index_or s i 0 ≤ 57 → w ≡ v * 10 + (slice_index_or s i 0 - 48)
-      → w < 4294967296
-      → Digits s at w (i + 1)
-  digit-next w p l g e f = record {
-    small = f;
-    front =
-        rw (e, digits_more v (slice_index_or s i 0) p l g (omega arith)) (front_then r.front (front_byte s i (slice_index_or s i 0) h refl));
-  }
+  pub digit-next : (w : ℕ) → 0 < v → Some w ≡ goes_on v (slice_index_or s i 0 ∷ []) → Digits s at w (i + 1)
+  unfolding goes_on
+  digit-next w p e =
+      let d = went_on v (slice_index_or s i 0) w [] (sym e) in
+      let f : w ≡ v * 10 + (slice_index_or s i 0 - 48) = sym (same_Some _ _ d.rest) in
+      record {
+        small = omega (arith, d.fits);
+        front =
+            rw (f, digits_more v (slice_index_or s i 0) p d.low d.high d.fits)
+            (front_then r.front (front_byte s i (slice_index_or s i 0) h refl));
+      }
 
   -- the byte that ends it
   pub digits_end : (b : ℕ) → slice_index_or s i 0 ≡ b → NumberAt s at b v (i + 1)
@@ -64,7 +75,7 @@ pub record Begun (s : List ℕ) (at : ℕ) (v : List ℕ) (k i : ℕ) : Type 0 w
   pub line : List ℕ
   pub front : Front s at line i
   pub lacks : before 10 line ≡ length line
-  pub so_far : (m : List ℕ) → map number_of (parts 44 (line ++ m)) ≡ map Is (take k v) ++ map number_of (parts 44 m)
+  pub so_far : (m : List ℕ) → map number_of (parts 44 (line ++ m)) ≡ map Some (take k v) ++ map number_of (parts 44 m)
 
 -- nothing
 pub line_begun : (s : List ℕ) (at : ℕ) (v : List ℕ) → length v ≡ 7 → Begun s at v 0 at
@@ -81,7 +92,7 @@ line_begun s at v h = record {
 module _ {s v : List ℕ} {at k i : ℕ} (r : Begun s at v k i) (x : ℕ) where
   -- the numbers of the line with x after it, where the parts that x begins are x and ps
   begun_with_lem : (m : List ℕ) (ps : List (List ℕ)) → x < 4294967296 → parts 44 m ≡ digits x ∷ ps
-      → map number_of (parts 44 (r.line ++ m)) ≡ map Is (take (k + 1) (set v k x)) ++ map number_of ps
+      → map number_of (parts 44 (r.line ++ m)) ≡ map Some (take (k + 1) (set v k x)) ++ map number_of ps
   begun_with_lem m ps h e =
       r.so_far m
       ∙ rw (e, read_back x h)
@@ -105,7 +116,7 @@ module _ {s v : List ℕ} {at k i : ℕ} (r : Begun s at v k i) (x : ℕ) where
   }
 
   -- the last, with a line feed after it
-  pub begun_all : {j : ℕ} → NumberAt s i 10 x j → k ≡ 6 → FieldsAt s at (record { good = true; values = set v 6 x }) j
+  pub begun_all : {j : ℕ} → NumberAt s i 10 x j → k ≡ 6 → FieldsAt s at (set v 6 x) j
   begun_all {j} f l = record {
     line = r.line ++ digits x;
     inside = f.inside;
@@ -115,6 +126,6 @@ module _ {s v : List ℕ} {at k i : ℕ} (r : Begun s at v k i) (x : ℕ) where
         sym
         (fields_seven (r.line ++ digits x) (set v 6 x) (length-set v 6 x ∙ r.size)
         (begun_with_lem (digits x) [] f.small (parts_last 44 (digits x) (digits_lacks 44 x (omega arith)))
-        ∙ append-nil (map Is (take (k + 1) (set v k x)))
-        ∙ rw l (ap (map Is) (take_all 7 (set v 6 x) (omega (arith, length-set v 6 x, r.size))))));
+        ∙ append-nil (map Some (take (k + 1) (set v k x)))
+        ∙ rw l (ap (map Some) (take_all 7 (set v 6 x) (omega (arith, length-set v 6 x, r.size))))));
   }

@@ -1,21 +1,17 @@
 -- What the proofs lean on: a definition at the variant that a match found, the seven stores of an event, how far a line
 -- moves the numbers, what stands ahead in a text and what it makes of the reading, and one line of a text.
-use Rattle.std.specs.Prelude.{slice_index_or}
-use Rattle.std.proofs.Common.{◌≡◌, ℕ, suc, ◌+◌, ◌-◌, ◌*◌, ◌<◌, ◌≤◌, min, Bool, true, false, cond, List, [], ◌∷◌, ◌++◌, length, take, drop, set, sym, refl, ap, ◌∙◌, append_assoc, arith, length-append, length-drop, length-set, drop_of_length-le, length-take, take_all}
-use native.Mathlib.Numerals.{unary_clauses}
+use Rattle.std.specs.Prelude.{slice_index_or, Option, Some, None}
+use Rattle.std.proofs.Common.{◌≡◌, ℕ, zero, suc, ◌+◌, ◌-◌, ◌<◌, ◌≤◌, min, true, List, [], ◌∷◌, ◌++◌, length, take, drop, set, sym, refl, ap, ◌∙◌, append_assoc, arith, length-append, length-drop, length-set, drop_of_length-le, length-take, take_all}
 use lib.Arith.{lt_of_le-ne}
 use lib.Seq.{sets, set_out}
 use Rattle.text.specs.Written.{bytes}
-use Rattle.text.specs.Line.{before, parts, starts, value_of, fields_of}
+use Rattle.text.specs.Line.{before, parts, starts, value_of}
 use Rattle.text.specs.Decimal.{digits}
 use Rattle.text.specs.Laws.{parts_some, parts_few, part_last, part_next, parts_then, lacks_both, digits_lacks, starts_key, value_written}
-use Rattle.text.specs.declared.Number.{Number}
-use Rattle.text.specs.declared.Number.TheVariants.{Is, Not}
-use Rattle.text.specs.declared.Fields.{Fields}
-use Rattle.scenario.specs.Format.{Read, begin, faulted, moved, after, sites_line, count_line, home_line, priority_line, events_line, event_line, event_of, next_by, homes_by, numbers_by, next_line, all_lines, read_into}
+use Rattle.scenario.specs.Format.{Read, begin, faulted, moved, sites_line, count_line, home_line, priority_line, events_line, event_line, event_of, next_by, homes_by, numbers_by, next_line, all_lines, read_into}
 use Rattle.scenario.specs.Front.{Front, NumberAt, FieldsAt}
 use Rattle.scenario.proofs.Fronts.{front_then, front_key}
-use Rattle.scenario.specs.Ahead.{Cut, line, rest, Ahead, AnyAhead, ValueAhead, EventAhead, LineAhead}
+use Rattle.scenario.specs.Ahead.{Cut, line, rest, Ahead, AnyAhead, LineSays, LineAhead}
 use Rattle.scenario.specs.declared.Want.{Want}
 use Rattle.scenario.specs.declared.Want.TheVariants.{Sites, Count, Home, Priority, Events, Event, Nothing, Fault}
 use Rattle.scenario.specs.declared.Reading.{Reading}
@@ -38,30 +34,7 @@ by_want m l hs ns r hs' ns' w e i j k = (
   at_variant (λ v. numbers_by v m l ns) e k,
 )
 
--- ---- a line that starts with a key
-
--- what stands after the key
-pub event_is : (l : List ℕ) (r : Fields) → starts (bytes "event=") l ≡ true
-    → r ≡ fields_of (take (length l - 6) (drop 6 l))
-    → r ≡ event_of l
-unfolding event_of
-event_is l r e f = rw e (f ∙ ap fields_of (take_all (length l - 6) (drop 6 l) (omega (arith, length-drop 6 l))))
-
 -- ---- stores
-
--- seven stores one after the other are the store of the seven
-pub seven_sets : (v l : List ℕ) (i : ℕ) → length v ≡ 7
-    → set (set (set (set (set (set (set l i (slice_index_or v 0 0)) (i + 1) (slice_index_or v 1 0)) (i + 2) (slice_index_or v 2 0)) (i + 3) (slice_index_or v 3 0)) (i + 4) (slice_index_or v 4 0)) (i + 5) (slice_index_or v 5 0)) (i + 6) (slice_index_or v 6 0)
-    ≡ sets l i v
-seven_sets [] l i h = absurd (omega arith)
-seven_sets (a ∷ []) l i h = absurd (omega arith)
-seven_sets (a ∷ b ∷ []) l i h = absurd (omega arith)
-seven_sets (a ∷ b ∷ c ∷ []) l i h = absurd (omega arith)
-seven_sets (a ∷ b ∷ c ∷ d ∷ []) l i h = absurd (omega arith)
-seven_sets (a ∷ b ∷ c ∷ d ∷ e ∷ []) l i h = absurd (omega arith)
-seven_sets (a ∷ b ∷ c ∷ d ∷ e ∷ f ∷ []) l i h = absurd (omega arith)
-seven_sets (a ∷ b ∷ c ∷ d ∷ e ∷ f ∷ g ∷ []) l i h = simp unary_clauses
-seven_sets (a ∷ b ∷ c ∷ d ∷ e ∷ f ∷ g ∷ x ∷ v) l i h = absurd (omega arith)
 
 -- stores past the end change nothing
 pub sets_out : (v l : List ℕ) (i : ℕ) → length l ≤ i → sets l i v ≡ l
@@ -69,6 +42,16 @@ sets_out [] l i h = refl
 sets_out (a ∷ v) l i h =
     let e = set_out l i a h in
     sets_out v (set l i a) (suc i) (omega (arith, length-set l i a)) ∙ e
+
+-- the first k stores, and the next
+pub sets_more : (v l : List ℕ) (i k : ℕ) → k < length v
+    → set (sets l i (take k v)) (i + k) (slice_index_or v k 0) ≡ sets l i (take (k + 1) v)
+sets_more [] l i k h = absurd (omega arith)
+sets_more (a ∷ v) l i zero h = let e : i + 0 ≡ i = omega arith in rw e
+sets_more (a ∷ v) l i (suc k) h =
+    let e : i + suc k ≡ suc i + k = omega arith in
+    let n : suc k + 1 ≡ suc (k + 1) = omega arith in
+    rw (e, n) (sets_more v (set l i a) (suc i) k (omega arith))
 
 -- ---- a line moves the two numbers on by one at most
 
@@ -84,44 +67,44 @@ module _ (m : Reading) where
   unfolding faulted
   faulted_stays = record { line = omega arith; done = λ h. h }
 
-  sites_moves : (n : Number) → Moves m (sites_line m n)
+  sites_moves : (n : Option ℕ) → Moves m (sites_line m n)
   unfolding sites_line
-  sites_moves (Is x) = record { line = omega arith; done = λ h. omega arith }
-  sites_moves Not = faulted_stays
+  sites_moves (Some x) = record { line = omega arith; done = λ h. omega arith }
+  sites_moves None = faulted_stays
 
-  count_moves : (n : Number) → Moves m (count_line m n)
+  count_moves : (n : Option ℕ) → Moves m (count_line m n)
   unfolding count_line
-  count_moves (Is x) = record { line = omega arith; done = λ h. omega arith }
-  count_moves Not = faulted_stays
+  count_moves (Some x) = record { line = omega arith; done = λ h. omega arith }
+  count_moves None = faulted_stays
 
-  home_moves : (n : Number) → Moves m (home_line m n)
+  home_moves : (n : Option ℕ) → Moves m (home_line m n)
   unfolding home_line moved
-  home_moves (Is x) = record { line = omega arith; done = λ h. omega arith }
-  home_moves Not = faulted_stays
+  home_moves (Some x) = record { line = omega arith; done = λ h. omega arith }
+  home_moves None = faulted_stays
 
-  priority_moves : (n : Number) → Moves m (priority_line m n)
+  priority_moves : (n : Option ℕ) → Moves m (priority_line m n)
   unfolding priority_line moved
-  priority_moves (Is x) = record { line = omega arith; done = λ h. omega arith }
-  priority_moves Not = faulted_stays
+  priority_moves (Some x) = record { line = omega arith; done = λ h. omega arith }
+  priority_moves None = faulted_stays
 
-  events_moves : (n : Number) → Moves m (events_line m n)
+  events_moves : (n : Option ℕ) → Moves m (events_line m n)
   unfolding events_line
-  events_moves (Is x) = record { line = omega arith; done = λ h. omega arith }
-  events_moves Not = faulted_stays
+  events_moves (Some x) = record { line = omega arith; done = λ h. omega arith }
+  events_moves None = faulted_stays
 
-  event_moves : (w : Want) (t : Bool) → Moves m (cond t (moved m w (m.done + 1)) (faulted m))
-  unfolding moved
-  event_moves w true = record { line = omega arith; done = λ h. omega arith }
-  event_moves w false = faulted_stays
+  event_moves : (f : Option (List ℕ)) → Moves m (event_line m f)
+  unfolding event_line moved
+  event_moves (Some v) = record { line = omega arith; done = λ h. omega arith }
+  event_moves None = faulted_stays
 
   moves : (w : Want) (l : List ℕ) → Moves m (next_by w m l)
-  unfolding next_by event_line
+  unfolding next_by
   moves Sites l = sites_moves _
   moves Count l = count_moves _
   moves Home l = home_moves _
   moves Priority l = priority_moves _
   moves Events l = events_moves _
-  moves Event l = event_moves (after (m.done + 1) m.events Event Nothing) (event_of l).good
+  moves Event l = event_moves _
   moves Nothing l = faulted_stays
   moves Fault l = stays
 
@@ -170,7 +153,7 @@ ahead_front {t} {at} {next} l f i h g = record {
 pub value_ahead : (t key : List ℕ) (at v next : ℕ) → starts key (take (length t - at) (drop at t)) ≡ true
     → before 10 key ≡ length key
     → NumberAt t (at + length key) 10 v next
-    → ValueAhead t at key (Is v) next
+    → LineSays t at (value_of key) (Some v) next
 value_ahead t key at v next s h f =
     ahead_front (key ++ digits v)
     (rw (append_assoc key (digits v) (10 ∷ [])) (front_then (front_key t key at (rest_starts t key at s)) f.front))
@@ -179,10 +162,10 @@ value_ahead t key at v next s h f =
     (sym (value_written key v f.small))
 
 -- .. or the values of an event
-pub event_ahead : (t : List ℕ) (at next : ℕ) (f : Fields)
+pub event_ahead : (t : List ℕ) (at next : ℕ) (f : List ℕ)
     → starts (bytes "event=") (take (length t - at) (drop at t)) ≡ true
     → FieldsAt t (at + 6) f next
-    → EventAhead t at f next
+    → LineSays t at event_of (Some f) next
 unfolding event_of bytes before
 event_ahead t at next f s g =
     ahead_front (bytes "event=" ++ g.line)
@@ -217,52 +200,31 @@ module _ (t : List ℕ) (at e : ℕ) (h : at < length t) (f : e ≡ min at (leng
 -- ---- what a line makes of the reading
 
 module _ (t : List ℕ) (at : ℕ) (m : Reading) (hs ns : List ℕ) (r : Reading) (hs' ns' : List ℕ) (next : ℕ) where
-  -- where a line is wanted whose value takes the reading on by f, and the homes by g
-  pub value_turns : (w : Want) (key : List ℕ) (n : Number) (f : Number → Reading) (g : Number → List ℕ) {e : ℕ}
+  -- where a line is wanted that takes the reading on by f, the homes by g and the numbers by k
+  pub line_turns : {A : Type 0} (w : Want) (read : List ℕ → Option A) (o : Option A) (f : Option A → Reading)
+      (g k : Option A → List ℕ)
       → m.want ≡ w
-      → ((l : List ℕ) → f (value_of key l) ≡ next_by w m l)
-      → ((l : List ℕ) → g (value_of key l) ≡ homes_by w m l hs)
-      → ((l : List ℕ) → ns ≡ numbers_by w m l ns)
-      → (f Not ≡ faulted m) × (g Not ≡ hs)
-      → ValueAhead t at key n e
-      → next ≡ e
-      → r ≡ f n
-      → hs' ≡ g n
-      → ns' ≡ ns
+      → ((l : List ℕ) → (f (read l) ≡ next_by w m l) × (g (read l) ≡ homes_by w m l hs) × (k (read l) ≡ numbers_by w m l ns))
+      → (f None ≡ faulted m) × (g None ≡ hs) × (k None ≡ ns)
+      → LineSays t at read o next
+      → (r ≡ f o) × (hs' ≡ g o) × (ns' ≡ k o)
       → LineAhead t at m hs ns r hs' ns' next
-  value_turns w key n f g o i j k b a x u v z =
-      rw x
-      (ahead_map
-      (λ l h. by_want m l hs ns r hs' ns' w o (u ∙ ap f h ∙ i l) (v ∙ ap g h ∙ j l) (z ∙ k l))
-      (λ h. (u ∙ ap f h ∙ b.0, v ∙ ap g h ∙ b.1, z))
-      a)
-
-  -- where an event is wanted
-  pub event_turns : (f : Fields) {e : ℕ} → m.want ≡ Event → EventAhead t at f e → next ≡ e → r ≡ event_line m f
-      → hs' ≡ hs
-      → ns' ≡ cond f.good (sets ns (7 * m.done) f.values) ns
-      → LineAhead t at m hs ns r hs' ns' next
-  unfolding next_by homes_by numbers_by event_line
-  event_turns f o a x u v z =
-      rw x
-      (ahead_map
-      (λ l h. by_want m l hs ns r hs' ns' Event o (u ∙ ap (event_line m) h) v
-      (z ∙ ap (λ (d : Fields). cond d.good (sets ns (7 * m.done) d.values) ns) h))
-      (λ h. (u ∙ rw h, v, z ∙ rw h))
-      a)
+  line_turns w read o f g k e i n a u =
+      ahead_map
+      (λ l h.
+      by_want m l hs ns r hs' ns' w e (u.0 ∙ ap f h ∙ (i l).0) (u.1 ∙ ap g h ∙ (i l).1) (u.2 ∙ ap k h ∙ (i l).2))
+      (λ h. (u.0 ∙ ap f h ∙ n.0, u.1 ∙ ap g h ∙ n.1, u.2 ∙ ap k h ∙ n.2))
+      a
 
   -- where nothing is wanted, or a line was at fault
-  pub any_turns : (w : Want) {e : ℕ} → m.want ≡ w → ((l : List ℕ) → r ≡ next_by w m l)
-      → ((l : List ℕ) → hs ≡ homes_by w m l hs)
-      → ((l : List ℕ) → ns ≡ numbers_by w m l ns)
+  pub any_turns : (w : Want) → m.want ≡ w
+      → ((l : List ℕ) → (r ≡ next_by w m l) × (hs ≡ homes_by w m l hs) × (ns ≡ numbers_by w m l ns))
       → r ≡ faulted m
-      → AnyAhead t at e
-      → next ≡ e
-      → hs' ≡ hs
-      → ns' ≡ ns
+      → AnyAhead t at next
+      → (hs' ≡ hs) × (ns' ≡ ns)
       → LineAhead t at m hs ns r hs' ns' next
-  any_turns w o i j k b a x v z =
-      rw x (ahead_map (λ l h. by_want m l hs ns r hs' ns' w o (i l) (v ∙ j l) (z ∙ k l)) (λ h. (b, v, z)) a)
+  any_turns w e i b a u =
+      ahead_map (λ l h. by_want m l hs ns r hs' ns' w e (i l).0 (u.0 ∙ (i l).1) (u.1 ∙ (i l).2)) (λ h. (b, u.0, u.1)) a
 
 -- a fault is at fault
 pub fault_faulted : (m : Reading) → m.want ≡ Fault → m ≡ faulted m
@@ -291,8 +253,6 @@ pub record Step (hs ns t : List ℕ) (homes numbers : List ℕ) (m : Reading) (a
   pub inside : at ≤ length t
   pub line : m.line ≤ at + 1
   pub done : m.done ≤ m.line
-  pub homes_long : length homes ≡ length hs
-  pub numbers_long : length numbers ≡ length ns
   pub so_far : read_into hs ns t ≡ all_lines (record { reading = m; homes = homes; numbers = numbers }) (parts 10 (drop at t))
 
 pub begun : (hs ns t : List ℕ) (m : Reading) → m ≡ begin → Step hs ns t hs ns m 0
@@ -303,8 +263,6 @@ begun hs ns t m e =
       inside = omega arith;
       line = omega arith;
       done = omega arith;
-      homes_long = refl;
-      numbers_long = refl;
       so_far = refl;
     })
 
@@ -315,12 +273,10 @@ module _ {hs ns t homes numbers : List ℕ} {m : Reading} {at : ℕ} (s : Step h
   ended h = let g : length t ≤ at = omega arith in s.so_far ∙ rw (drop_of_length-le t g)
 
   -- a line, or what no line feed ends
-  pub turned : {homes' numbers' : List ℕ} {r : Reading} {next : ℕ} → length homes' ≡ length homes
-      → length numbers' ≡ length numbers
-      → LineAhead t at m homes numbers r homes' numbers' next
+  pub turned : {homes' numbers' : List ℕ} {r : Reading} {next : ℕ} → LineAhead t at m homes numbers r homes' numbers' next
       → Step hs ns t homes' numbers' r next
   unfolding all_lines next_line parts
-  turned {homes'} {numbers'} {r} {next} y z a = go a.cut
+  turned {homes'} {numbers'} {r} {next} a = go a.cut
     where
       -- the last line that is looked for is at fault
       last : (l : List ℕ) → (length l ≡ 0 → ⊥)
@@ -345,8 +301,6 @@ module _ {hs ns t homes numbers : List ℕ} {m : Reading} {at : ℕ} (s : Step h
         inside = a.inside;
         line = omega (arith, v.line, a.further, s.line);
         done = v.done s.done;
-        homes_long = y ∙ s.homes_long;
-        numbers_long = z ∙ s.numbers_long;
         so_far = e;
       }
 
@@ -363,7 +317,6 @@ module _ {hs ns t homes numbers : List ℕ} {m : Reading} {at : ℕ} (s : Step h
           (s.so_far ∙ rw (e, g.0, g.1, g.2, drop_of_length-le t o) (last l h))
 
 -- the parts of what was read
-pub results : (x : Read) (r m : Reading) (homes numbers : List ℕ) → r ≡ m
-    → x ≡ record { reading = m; homes = homes; numbers = numbers }
-    → (r ≡ x.reading) × (homes ≡ x.homes) × (numbers ≡ x.numbers)
-results x r m homes numbers e f = (rw f e, rw f, rw f)
+pub results : {x : Read} {m : Reading} {homes numbers : List ℕ} → x ≡ record { reading = m; homes = homes; numbers = numbers }
+    → (m ≡ x.reading) × (homes ≡ x.homes) × (numbers ≡ x.numbers)
+results e = (rw e, rw e, rw e)

@@ -1,4 +1,4 @@
-pub mod Filling
+pub mod Made
 pub mod Fronts
 pub mod Laws
 pub mod Rehearsed

@@ -1,16 +1,14 @@
 -- Decimals with commas between them, and the fields of an event: what is written is read, and what is read was written.
-use Rattle.std.specs.Prelude.{◌≡◌, ℕ, zero, suc, ◌+◌, Bool, true, false, cond, ◌&&◌, List, [], ◌∷◌, ◌++◌, map, length, drop, ◌==◌, slice_index, refl}
+use Rattle.std.specs.Prelude.{◌≡◌, ℕ, zero, suc, ◌+◌, Bool, true, false, cond, Option, Some, None, List, [], ◌∷◌, ◌++◌, map, length, drop, ◌==◌, slice_index, refl}
 use Rattle.std.proofs.Common.{sym, ap, ap₂, subst, ◌∙◌, append-nil, arith, drop_of_length-le, drop-cons, eqb-true}
-use Rattle.std.proofs.lemmas.Bool.{false≢true}
+use Rattle.std.proofs.lemmas.Option.{none-some, same_Some}
 use Rattle.std.proofs.lemmas.List.{length-map}
 use Rattle.protocol.specs.Lists.{table_from}
 use Rattle.protocol.specs.declared.Event.{Event}
 use Rattle.text.specs.Written.{bytes}
 use Rattle.text.specs.Decimal.{number_of, digits}
-use Rattle.text.specs.Line.{before, parts, starts, no_fields, the_number, all_numbers, fields_by, fields_of}
-use Rattle.text.specs.Laws.{read_back, print_back, number_fits, parts_last, lacks_both, digits_lacks, parts_then, joined, joined-parts, starts_key, key_starts}
-use Rattle.text.specs.declared.Number.{Number}
-use Rattle.text.specs.declared.Number.TheVariants.{Is, Not}
+use Rattle.text.specs.Line.{before, parts, starts, numbers_in, fields_by, fields_of}
+use Rattle.text.specs.Laws.{read_back, print_back, number_fits, numbers_are, parts_last, lacks_both, digits_lacks, parts_then, joined, joined-parts, starts_key, key_starts}
 use Rattle.scenario.specs.Format.{event_of}
 use Rattle.scenario.specs.Report.{others_of, commas_of}
 use Rattle.scenario.specs.Tables.{fields_in, Small, AllSmall}
@@ -65,34 +63,36 @@ commas_lack [] = refl
 commas_lack (n ∷ l) = lacks_both 10 (digits n) (others_of l) (digits_lacks 10 n (omega arith)) (others_lack l)
 
 -- numbers of 32 bits are read as they are written
-read_all : (l : List ℕ) → AllSmall l → map number_of (map digits l) ≡ map Is l
+read_all : (l : List ℕ) → AllSmall l → map number_of (map digits l) ≡ map Some l
 read_all [] h = refl
 read_all (n ∷ l) h =
-    ap₂ (λ (v : Number) (vs : List Number). v ∷ vs) (read_back n (h 0)) (read_all l (λ i. h (suc i)))
+    ap₂ (λ (v : Option ℕ) (vs : List (Option ℕ)). v ∷ vs) (read_back n (h 0)) (read_all l (λ i. h (suc i)))
 
 -- numbers of 32 bits of which these are the writings
-record Writings (ps : List (List ℕ)) : Type 0 where
-  numbers : List ℕ
+record Writings (ps : List (List ℕ)) (numbers : List ℕ) : Type 0 where
   small : AllSmall numbers
   writings : map digits numbers ≡ ps
 
 -- what is read as numbers is their writings
-written_all : (ps : List (List ℕ)) → all_numbers (map number_of ps) ≡ true → Writings ps
-unfolding all_numbers
-written_all [] h = record { numbers = []; small = λ i. omega arith; writings = refl }
-written_all (p ∷ ps) h = go (number_of p) refl h (written_all ps)
+written_all : (ps : List (List ℕ)) (v : List ℕ) → numbers_in (map number_of ps) ≡ Some v → Writings ps v
+unfolding numbers_in
+written_all [] v h = let e : v ≡ [] = cc in rw e (record { small = λ i. omega arith; writings = refl })
+written_all (p ∷ ps) v h = go (number_of p) (numbers_in (map number_of ps)) refl (written_all ps) refl h
   where
-    go : (v : Number) → number_of p ≡ v → all_numbers (v ∷ map number_of ps) ≡ true
-        → (all_numbers (map number_of ps) ≡ true → Writings ps)
-        → Writings (p ∷ ps)
-    go (Is n) e f r =
-        let w = r f in
-        record {
-          numbers = n ∷ w.numbers;
-          small = small_more n w.numbers (number_fits p n e) w.small;
+    go : (n : Option ℕ) (o : Option (List ℕ)) → number_of p ≡ n → ((u : List ℕ) → o ≡ Some u → Writings ps u)
+        → numbers_in (map number_of ps) ≡ o
+        → numbers_in (n ∷ map number_of ps) ≡ Some v
+        → Writings (p ∷ ps) v
+    go (Some n) (Some u) e r q f =
+        let w = r u refl in
+        let x : n ∷ u ≡ v = same_Some _ _ (rw q at f) in
+        rw (← x)
+        (record {
+          small = small_more n u (number_fits p n e) w.small;
           writings = ap₂ (λ (x : List ℕ) (xs : List (List ℕ)). x ∷ xs) (print_back p n e) w.writings;
-        }
-    go Not e f r = absurd (false≢true f)
+        })
+    go (Some n) None e r q f = absurd (none-some _ (rw q at f))
+    go None o e r q f = absurd (none-some _ f)
 
 -- ---- a key and a value
 
@@ -112,11 +112,12 @@ FieldsSmall e = AllSmall (fields_in e)
 -- ---- the fields of an event
 
 -- seven numbers, written with commas, are read as these seven
-fields_written : (e : Event) → FieldsSmall e → fields_of (fields_text e) ≡ record { good = true; values = fields_in e }
-unfolding fields_of fields_by all_numbers
+fields_written : (e : Event) → FieldsSmall e → fields_of (fields_text e) ≡ Some (fields_in e)
+unfolding fields_of fields_by
 fields_written e h =
     ap (λ (ps : List (List ℕ)). fields_by (map number_of ps)) (parts_commas e.action _)
     ∙ ap fields_by (read_all (fields_in e) h)
+    ∙ numbers_are (fields_in e)
 
 -- a list from place i on is the elements at the places from i on
 tabled : (l : List ℕ) (i n : ℕ) → i + n ≡ length l → table_from i n (λ k. slice_index l k) ≡ drop i l
@@ -143,50 +144,46 @@ unfolding table_from
 seven l h = tabled l 0 7 (sym h)
 
 -- what is read as seven numbers is the fields of an event, written with commas
-fields_read : (l : List ℕ) → (fields_of l).good ≡ true → Valued [] fields_text FieldsSmall l
+fields_read : (l v : List ℕ) → fields_of l ≡ Some v → Valued [] fields_text FieldsSmall l
 unfolding fields_of fields_by
-fields_read l h = go (length (map number_of (parts 44 l)) == 7) (all_numbers (map number_of (parts 44 l))) refl refl h
+fields_read l v h = go (length (map number_of (parts 44 l)) == 7) refl h
   where
-    by : (w : Writings (parts 44 l)) → length w.numbers ≡ 7 → Valued [] fields_text FieldsSmall l
+    by : (w : Writings (parts 44 l) v) → length v ≡ 7 → Valued [] fields_text FieldsSmall l
     by w e =
-        let s : fields_in (event_from w.numbers) ≡ w.numbers = seven w.numbers e in
+        let s : fields_in (event_from v) ≡ v = seven v e in
         record {
-          it = event_from w.numbers;
+          it = event_from v;
           fit = subst AllSmall (sym s) w.small;
-          writing =
-              ap commas_of s ∙ sym (commas_joined w.numbers) ∙ ap (joined 44) w.writings ∙ joined-parts 44 l;
+          writing = ap commas_of s ∙ sym (commas_joined v) ∙ ap (joined 44) w.writings ∙ joined-parts 44 l;
         }
 
-    go : (s t : Bool) → (length (map number_of (parts 44 l)) == 7) ≡ s → all_numbers (map number_of (parts 44 l)) ≡ t
-        → (cond (s && t) (record { good = true; values = map the_number (map number_of (parts 44 l)) }) no_fields).good
-        ≡ true
+    go : (t : Bool) → (length (map number_of (parts 44 l)) == 7) ≡ t
+        → cond t (numbers_in (map number_of (parts 44 l))) None ≡ Some v
         → Valued [] fields_text FieldsSmall l
-    go true true e f g =
-        let w = written_all (parts 44 l) f in
+    go true e f =
+        let w = written_all (parts 44 l) v f in
         by w
-        (sym (length-map w.numbers digits) ∙ ap length w.writings ∙ sym (length-map (parts 44 l) number_of)
-        ∙ eqb-true _ _ e)
-    go true false e f g = absurd (false≢true g)
-    go false t e f g = absurd (false≢true g)
+        (sym (length-map v digits) ∙ ap length w.writings ∙ sym (length-map (parts 44 l) number_of) ∙ eqb-true _ _ e)
+    go false e f = absurd (none-some _ f)
 
 -- so with `event=` in front ..
 pub event_written : (e : Event) → FieldsSmall e
-    → event_of (bytes "event=" ++ fields_text e) ≡ record { good = true; values = fields_in e }
+    → event_of (bytes "event=" ++ fields_text e) ≡ Some (fields_in e)
 unfolding event_of bytes
 event_written e h = rw (starts_key (bytes "event=") (fields_text e)) (fields_written e h)
 
 -- .. both ways
-pub event_read : (l : List ℕ) → (event_of l).good ≡ true → Valued (bytes "event=") fields_text FieldsSmall l
+pub event_read : (l v : List ℕ) → event_of l ≡ Some v → Valued (bytes "event=") fields_text FieldsSmall l
 unfolding event_of bytes
-event_read l h = go (starts (bytes "event=") l) refl h
+event_read l v h = go (starts (bytes "event=") l) refl h
   where
-    go : (t : Bool) → starts (bytes "event=") l ≡ t → (cond t (fields_of (drop 6 l)) no_fields).good ≡ true
+    go : (t : Bool) → starts (bytes "event=") l ≡ t → cond t (fields_of (drop 6 l)) None ≡ Some v
         → Valued (bytes "event=") fields_text FieldsSmall l
     go true s f =
-        let w = fields_read (drop 6 l) f in
+        let w = fields_read (drop 6 l) v f in
         record {
           it = w.it;
           fit = w.fit;
           writing = ap (λ (x : List ℕ). bytes "event=" ++ x) w.writing ∙ key_starts (bytes "event=") l s;
         }
-    go false s f = absurd (false≢true f)
+    go false s f = absurd (none-some _ f)

@@ -1,14 +1,11 @@
 -- 01, "Scenario and report": the form of a scenario, line by line, and the number of the first line at fault.
-use Rattle.std.specs.Prelude.{ℕ, ◌+◌, ◌*◌, Bool, true, false, cond, List, [], ◌∷◌, drop, replicate, nat_lt, slice_index, slice_set}
+use Rattle.std.specs.Prelude.{ℕ, ◌+◌, ◌*◌, Bool, true, false, cond, Option, Some, None, List, [], ◌∷◌, drop, replicate, nat_lt, slice_index, slice_set}
 use Rattle.std.proofs.lemmas.List.Edits.{sets}
 use Rattle.protocol.specs.State.{max_txns, max_events}
 use Rattle.protocol.specs.Lists.{table}
 use Rattle.protocol.specs.declared.Entry.{Entry}
 use Rattle.text.specs.Written.{bytes}
-use Rattle.text.specs.Line.{parts, starts, value_of, fields_of, no_fields}
-use Rattle.text.specs.declared.Number.{Number}
-use Rattle.text.specs.declared.Number.TheVariants.{Is, Not}
-use Rattle.text.specs.declared.Fields.{Fields}
+use Rattle.text.specs.Line.{parts, starts, value_of, fields_of}
 use Rattle.scenario.specs.declared.Want.{Want}
 use Rattle.scenario.specs.declared.Want.TheVariants.{Sites, Count, Home, Priority, Events, Event, Nothing, Fault}
 use Rattle.scenario.specs.declared.Reading.{Reading}
@@ -26,25 +23,11 @@ begin = record { want = Sites; line = 1; done = 0; sites = 0; count = 0; events 
 
 -- the wanted line is at fault
 unfoldable pub faulted : Reading → Reading
-faulted m = record {
-  want = Fault;
-  line = m.line;
-  done = m.done;
-  sites = m.sites;
-  count = m.count;
-  events = m.events;
-}
+faulted m = record m { want = Fault }
 
 -- the wanted line is there: another is wanted, of whose kind `done` have been
 unfoldable pub moved : Reading → Want → ℕ → Reading
-moved m want done = record {
-  want = want;
-  line = m.line + 1;
-  done = done;
-  sites = m.sites;
-  count = m.count;
-  events = m.events;
-}
+moved m want done = record m { want = want; line = m.line + 1; done = done }
 
 -- what is wanted after done of n lines of a kind: one more of them, or what follows them
 abbrev pub after : ℕ → ℕ → Want → Want → Want
@@ -52,36 +35,36 @@ after done n more next = cond (nat_lt done n) more next
 
 -- "In order: sites, transactions, then master and priority for each transaction, events, then event= ..": a line of each
 -- kind that is its key and a decimal
-unfoldable pub sites_line : Reading → Number → Reading
-sites_line m (Is n) =
-    record { want = Count; line = m.line + 1; done = 0; sites = n; count = m.count; events = m.events }
-sites_line m Not = faulted m
+unfoldable pub sites_line : Reading → Option ℕ → Reading
+sites_line m (Some n) =
+    record m { want = Count; line = m.line + 1; done = 0; sites = n }
+sites_line m None = faulted m
 
-unfoldable pub count_line : Reading → Number → Reading
-count_line m (Is n) =
-    record { want = after 0 n Home Events; line = m.line + 1; done = 0; sites = m.sites; count = n; events = m.events }
-count_line m Not = faulted m
+unfoldable pub count_line : Reading → Option ℕ → Reading
+count_line m (Some n) =
+    record m { want = after 0 n Home Events; line = m.line + 1; done = 0; count = n }
+count_line m None = faulted m
 
-unfoldable pub home_line : Reading → Number → Reading
-home_line m (Is n) = moved m Priority m.done
-home_line m Not = faulted m
+unfoldable pub home_line : Reading → Option ℕ → Reading
+home_line m (Some n) = moved m Priority m.done
+home_line m None = faulted m
 
-unfoldable pub priority_line : Reading → Number → Reading
-priority_line m (Is n) = moved m (after (m.done + 1) m.count Home Events) (m.done + 1)
-priority_line m Not = faulted m
+unfoldable pub priority_line : Reading → Option ℕ → Reading
+priority_line m (Some n) = moved m (after (m.done + 1) m.count Home Events) (m.done + 1)
+priority_line m None = faulted m
 
-unfoldable pub events_line : Reading → Number → Reading
-events_line m (Is n) =
-    record { want = after 0 n Event Nothing; line = m.line + 1; done = 0; sites = m.sites; count = m.count; events = n }
-events_line m Not = faulted m
+unfoldable pub events_line : Reading → Option ℕ → Reading
+events_line m (Some n) =
+    record m { want = after 0 n Event Nothing; line = m.line + 1; done = 0; events = n }
+events_line m None = faulted m
 
 -- .. and one that is `event=` "with the seven fields and commas"
-unfoldable pub event_line : Reading → Fields → Reading
-event_line m f =
-    cond f.good (moved m (after (m.done + 1) m.events Event Nothing) (m.done + 1)) (faulted m)
+unfoldable pub event_line : Reading → Option (List ℕ) → Reading
+event_line m (Some v) = moved m (after (m.done + 1) m.events Event Nothing) (m.done + 1)
+event_line m None = faulted m
 
-unfoldable pub event_of : List ℕ → Fields
-event_of l = cond (starts (bytes "event=") l) (fields_of (drop 6 l)) no_fields
+unfoldable pub event_of : List ℕ → Option (List ℕ)
+event_of l = cond (starts (bytes "event=") l) (fields_of (drop 6 l)) None
 
 -- one line more; "nothing after" the last
 unfoldable pub next_by : Want → Reading → List ℕ → Reading
@@ -95,9 +78,14 @@ next_by Nothing m l = faulted m
 next_by Fault m l = m
 
 -- a list with the value of a line at place k, where the line has one and the list the place
-unfoldable pub kept : List ℕ → ℕ → Number → List ℕ
-kept hs k (Is n) = slice_set hs k n
-kept hs k Not = hs
+unfoldable pub kept : List ℕ → ℕ → Option ℕ → List ℕ
+kept hs k (Some n) = slice_set hs k n
+kept hs k None = hs
+
+-- .. or with the values of an event from place k on
+unfoldable pub kept_all : List ℕ → ℕ → Option (List ℕ) → List ℕ
+kept_all ns k (Some v) = sets ns k v
+kept_all ns k None = ns
 
 -- what of a line is kept: the home and the priority of a transaction, the numbers of an event, as far as there is room
 unfoldable pub homes_by : Want → Reading → List ℕ → List ℕ → List ℕ
@@ -116,7 +104,7 @@ numbers_by Count m l ns = ns
 numbers_by Home m l ns = ns
 numbers_by Priority m l ns = ns
 numbers_by Events m l ns = ns
-numbers_by Event m l ns = cond (event_of l).good (sets ns (7 * m.done) (event_of l).values) ns
+numbers_by Event m l ns = kept_all ns (7 * m.done) (event_of l)
 numbers_by Nothing m l ns = ns
 numbers_by Fault m l ns = ns
 

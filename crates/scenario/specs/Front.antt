@@ -1,8 +1,7 @@
 -- What stands in a text at a place: a decimal and the byte that ends it, and the line of seven values.
-use Rattle.std.specs.Prelude.{◌≡◌, ℕ, ◌<◌, ◌≤◌, List, [], ◌∷◌, ◌++◌, length, drop}
+use Rattle.std.specs.Prelude.{◌≡◌, ℕ, ◌<◌, ◌≤◌, Some, List, [], ◌∷◌, ◌++◌, length, drop}
 use Rattle.text.specs.Decimal.{digits}
 use Rattle.text.specs.Line.{before, fields_of}
-use Rattle.text.specs.declared.Fields.{Fields}
 
 -- from `at` on the text s is l, and then what it is from `next` on
 pub record Front (s : List ℕ) (at : ℕ) (l : List ℕ) (next : ℕ) : Type 0 where
@@ -15,9 +14,9 @@ pub record NumberAt (s : List ℕ) (at b v next : ℕ) : Type 0 where
   pub front : Front s at (digits v ++ (b ∷ [])) next
 
 -- it is a line that has the values f, and a line feed
-pub record FieldsAt (s : List ℕ) (at : ℕ) (f : Fields) (next : ℕ) : Type 0 where
+pub record FieldsAt (s : List ℕ) (at : ℕ) (f : List ℕ) (next : ℕ) : Type 0 where
   pub line : List ℕ
   pub inside : next ≤ length s
   pub front : Front s at (line ++ (10 ∷ [])) next
   pub lacks : before 10 line ≡ length line
-  pub fields : fields_of line ≡ f
+  pub fields : fields_of line ≡ Some f

@@ -18,8 +18,8 @@ use Rattle.protocol.specs.Answer.{message_of, action_of, no_action, no_site, no_
 use Rattle.protocol.specs.Run.{state_after, answers_of, sent_by, events_of}
 use Rattle.text.specs.Written.{bytes}
 use Rattle.text.specs.Decimal.{goes_on, number_of, digits_by, digits}
-use Rattle.text.specs.Line.{parts, starts, value_of, all_numbers, fields_by, fields_of}
-use Rattle.scenario.specs.Format.{begin, faulted, moved, sites_line, count_line, home_line, priority_line, events_line, event_line, event_of, next_by, kept, homes_by, numbers_by, next_line, all_lines, read_into, whole, entries_in}
+use Rattle.text.specs.Line.{parts, starts, value_of, numbers_in, fields_by, fields_of}
+use Rattle.scenario.specs.Format.{begin, faulted, moved, sites_line, count_line, home_line, priority_line, events_line, event_line, event_of, next_by, kept, kept_all, homes_by, numbers_by, next_line, all_lines, read_into, whole, entries_in}
 use Rattle.scenario.specs.Report.{line_of, others_of, commas_of, list_of, answer_lines, site_lines, run_lines, outcome_of, read_report, report_of}
 
 -- a text, and the report that must come back
@@ -105,8 +105,8 @@ unfolding bytes ones_in has is_empty with_in union minus without overlap first_i
     scan effect message_of action_of no_action no_site no_transaction ill_kind ill_from ill_reads ill_writes ill_transaction
     ill_filled home_met wrong_home wrong_status wrong_missing message_there no_message lock_clash no_scan checks_in_range
     checks answer done step state_after answers_of sent_by setup_of events_of goes_on number_of digits_by digits parts
-    starts value_of all_numbers fields_by fields_of begin faulted moved sites_line count_line home_line
-    priority_line events_line event_line event_of next_by kept homes_by numbers_by next_line all_lines read_into whole entries_in line_of others_of commas_of list_of answer_lines site_lines run_lines
+    starts value_of numbers_in fields_by fields_of begin faulted moved sites_line count_line home_line
+    priority_line events_line event_line event_of next_by kept kept_all homes_by numbers_by next_line all_lines read_into whole entries_in line_of others_of commas_of list_of answer_lines site_lines run_lines
     outcome_of read_report report_of
 printed s = report_of (bytes s.text)
 

@@ -1,6 +1,6 @@
 -- Which line is wanted: its key, the text of its value, and where it takes the reading. For lines of each kind, one law
 -- says that such a line is read, and one that a whole text has such a line in front.
-use Rattle.std.specs.Prelude.{◌≡◌, ℕ, ◌+◌, ◌*◌, ◌<◌, Bool, true, false, ◌⊎◌, List, [], ◌∷◌, ◌++◌, length, slice_set}
+use Rattle.std.specs.Prelude.{◌≡◌, ℕ, ◌+◌, ◌*◌, ◌<◌, true, false, ◌⊎◌, Option, Some, None, List, [], ◌∷◌, ◌++◌, length, slice_set}
 use Rattle.std.proofs.Math.Path.{refl, ap}
 use Rattle.std.proofs.Common.{sym, ◌∙◌, append_assoc, arith}
 use Rattle.std.proofs.lemmas.Bool.{false≢true}
@@ -10,12 +10,10 @@ use Rattle.text.specs.Written.{bytes}
 use Rattle.text.specs.Decimal.{digits}
 use Rattle.text.specs.Line.{before, parts, value_of}
 use Rattle.text.specs.Laws.{parts_some, lacks_both, digits_lacks, parts_then, joined, value_written, value_read, value_fits}
-use Rattle.text.specs.declared.Number.{Number}
-use Rattle.text.specs.declared.Number.TheVariants.{Is, Not}
 use Rattle.scenario.specs.declared.Want.{Want}
 use Rattle.scenario.specs.declared.Want.TheVariants.{Sites, Count, Home, Priority, Events, Event as Next, Nothing, Fault}
 use Rattle.scenario.specs.declared.Reading.{Reading}
-use Rattle.scenario.specs.Format.{Read, faulted, moved, after, sites_line, count_line, home_line, priority_line, events_line, event_line, event_of, next_by, kept, homes_by, numbers_by, next_line, all_lines, whole}
+use Rattle.scenario.specs.Format.{Read, faulted, moved, after, sites_line, count_line, home_line, priority_line, events_line, event_line, event_of, next_by, kept, kept_all, homes_by, numbers_by, next_line, all_lines, whole}
 use Rattle.scenario.specs.Tables.{fields_in, Small}
 use Rattle.scenario.specs.Commas.{Valued, fields_text, FieldsSmall, commas_lack, event_written, event_read}
 
@@ -116,15 +114,15 @@ module _ (line done sites count events : ℕ) (hs ns : List ℕ) where
   wants want = at want line done sites count events hs ns
 
   -- .. and the one that follows, where both it and the homes go by the value of the line
-  abbrev goes : (Number → Reading) → (Number → List ℕ) → Number → Read
+  abbrev goes : (Option ℕ → Reading) → (Option ℕ → List ℕ) → Option ℕ → Read
   goes f g v = record { reading = f v; homes = g v; numbers = ns }
 
   -- a key and a decimal, where a line without a value is a fault
-  decimal : (want : Want) (key : List ℕ) (f : Number → Reading) (g : Number → List ℕ) → before 10 key ≡ length key
+  decimal : (want : Want) (key : List ℕ) (f : Option ℕ → Reading) (g : Option ℕ → List ℕ) → before 10 key ≡ length key
       → whole want ≡ false
       → ((l : List ℕ) → next_line (wants want) l ≡ goes f g (value_of key l))
-      → (f Not).want ≡ Fault
-      → Wanted key digits Small (wants want) (λ n. goes f g (Is n))
+      → (f None).want ≡ Fault
+      → Wanted key digits Small (wants want) (λ n. goes f g (Some n))
   decimal want key f g c m e z =
       record {
         more = m;
@@ -133,10 +131,10 @@ module _ (line done sites count events : ℕ) (hs ns : List ℕ) where
         known = λ l. go l (value_of key l) refl;
       }
     where
-      go : (l : List ℕ) (v : Number) → value_of key l ≡ v
+      go : (l : List ℕ) (v : Option ℕ) → value_of key l ≡ v
           → ((next_line (wants want) l).reading.want ≡ Fault) ⊎ Valued key digits Small l
-      go l (Is n) q = inr (record { it = n; fit = value_fits key l n q; writing = value_read key l n q })
-      go l Not q = inl (ap (λ (x : Read). x.reading.want) (e l ∙ ap (goes f g) q) ∙ z)
+      go l (Some n) q = inr (record { it = n; fit = value_fits key l n q; writing = value_read key l n q })
+      go l None q = inl (ap (λ (x : Read). x.reading.want) (e l ∙ ap (goes f g) q) ∙ z)
 
   -- "In order: sites, transactions, then master and priority for each transaction, events ..": each a decimal
   pub sites_wanted :
@@ -182,16 +180,16 @@ module _ (line done sites count events : ℕ) (hs ns : List ℕ) where
       Wanted (bytes "event=") fields_text FieldsSmall (wants Next)
       (λ e. at (after (done + 1) events Next Nothing) (line + 1) (done + 1) sites count events hs
       (sets ns (7 * done) (fields_in e)))
-  unfolding bytes before next_line next_by homes_by numbers_by event_line moved faulted whole
+  unfolding bytes before next_line next_by homes_by numbers_by event_line moved kept_all faulted whole
   event_wanted =
       record {
         more = refl;
         lacks = λ e. lacks_both 10 (bytes "event=") (fields_text e) refl (commas_lack (fields_in e));
         reads = λ e h. rw (event_written e h);
-        known = λ l. go l (event_of l).good refl;
+        known = λ l. go l (event_of l) refl;
       }
     where
-      go : (l : List ℕ) (t : Bool) → (event_of l).good ≡ t
+      go : (l : List ℕ) (f : Option (List ℕ)) → event_of l ≡ f
           → ((next_line (wants Next) l).reading.want ≡ Fault) ⊎ Valued (bytes "event=") fields_text FieldsSmall l
-      go l true q = inr (event_read l q)
-      go l false q = inl (rw q)
+      go l (Some v) q = inr (event_read l v q)
+      go l None q = inl (rw q)

@@ -1,107 +1,62 @@
 // What stands ahead in a text, found in one pass over its bytes. That nothing was found tells nothing: the reader then takes
 // the line by its parts.
-ghost use Rattle.std.specs.Prelude.{◌≡◌, ◌+◌, ◌-◌, ◌*◌, ◌<◌, ◌≤◌, length, slice_index};
+ghost use Rattle.std.specs.Prelude.{◌≡◌, Some, IfSome};
 ghost use Rattle.scenario.specs.Front.{NumberAt, FieldsAt};
 
-use text::Fields;
-
-// A decimal that was found at a place, and the place after the byte that ends it: 0 where none was found.
+// What was found in a text, and the place after it.
 #[derive(Clone, Copy)]
-pub(crate) struct Found {
+pub(crate) struct Ahead<T> {
     pub next: usize,
-    pub value: u32,
+    pub value: T,
 }
 
-// The seven values of a line that was found at a place, and the place after its line feed: 0 where none was found.
-#[derive(Clone, Copy)]
-pub(crate) struct Line {
-    pub next: usize,
-    pub fields: Fields,
-}
-
-// The digit that the byte is, or a number above 9 where it is none.
-fn digit(b: u8) -> u64
-    ensures { result < 10 → b ≡ 48 + result }
-{
-    std::num::wrapping_sub_u8(b, 48) as u64
-}
-
-// The number that the digit x makes of v, or 2^32 where x is no digit, where it would not fit, and after a zero in front.
-fn with_digit(v: u64, x: u8) -> u64
-    requires { v < 4294967296 }
-    ensures { result < 4294967296 → (0 < v) × (48 ≤ x) × (x ≤ 57) × (result ≡ v * 10 + (x - 48)) }
-{
-    if v == 0 {
-        return 4294967296;
+impl<T> Ahead<T> {
+    // The same, as what was found of a line that may say nothing.
+    pub fn said(self) -> Ahead<Option<T>>
+        ensures { (result.next ≡ self.next) × (result.value ≡ Some self.value) }
+    {
+        Ahead {
+            next: self.next,
+            value: Some(self.value),
+        }
     }
-    let d = digit(x);
-    if d > 9 {
-        return 4294967296;
-    }
-    v * 10 + d
 }
 
-// The digit that stands at `at`, or a number above 9 where none does.
-fn digit_at(s: &[u8], at: usize) -> u64
-    ensures { result < 10 → (at < length s.now) × (slice_index s.now at ≡ 48 + result) }
+// The decimal that stands at `at` with the byte `end` after it. One pass tells all but why there is none.
+pub(crate) fn number_at(s: &[u8], at: usize, end: u8) -> Option<Ahead<u32>>
+    ensures { IfSome result (λ f. NumberAt s.now at end f.value f.next) }
 {
-    if at < s.len() { digit(s[at]) } else { 10 }
-}
-
-// The decimal that stands at `at` with the byte b after it. One pass tells all but why there is none.
-pub(crate) fn number_at(s: &[u8], at: usize, b: u8) -> Found
-    ensures { 0 < result.next → NumberAt s.now at b result.value result.next }
-{
-    let none = Found { next: 0, value: 0 };
-    let first = digit_at(s, at);
-    if first > 9 {
-        return none;
-    }
-    let mut v = first;
-    let mut i = at + 1;
-    while i < s.len() {
-        let x = s[i];
-        if x == b {
-            return Found {
+    let mut v = text::with_digit(0, *s.get(at)?)?;
+    for i in at + 1..s.len() {
+        if s[i] == end {
+            return Some(Ahead {
                 next: i + 1,
-                value: v as u32,
-            };
+                value: v,
+            });
         }
-        v = with_digit(v, x);
-        if v > 4294967295 {
-            return none;
+        if v == 0 {
+            return None;
         }
-        i += 1;
+        v = text::with_digit(v, s[i])?;
     }
-    none
+    None
 }
 
 // The values of seven decimals that stand at `at` with commas between them and a line feed after them.
-pub(crate) fn seven_at(s: &[u8], at: usize) -> Line
-    ensures { 0 < result.next → FieldsAt s.now at result.fields result.next }
+pub(crate) fn seven_at(s: &[u8], at: usize) -> Option<Ahead<[u32; 7]>>
+    ensures { IfSome result (λ f. FieldsAt s.now at f.value f.next) }
 {
-    let mut v = [0u32; 7];
-    let mut k: usize = 0;
-    let mut i = at;
-    while k < 6 {
-        let f = number_at(s, i, 44);
-        if f.next == 0 {
-            return Line {
-                next: 0,
-                fields: text::none(),
-            };
-        }
-        v[k] = f.value;
-        i = f.next;
-        k += 1;
+    let mut values = [0; 7];
+    let mut next = at;
+    for k in 0..6 {
+        let f = number_at(s, next, b',')?;
+        values[k] = f.value;
+        next = f.next;
     }
-    let f = number_at(s, i, 10);
-    v[6] = f.value;
-    Line {
+    let f = number_at(s, next, b'\n')?;
+    values[6] = f.value;
+    Some(Ahead {
         next: f.next,
-        fields: Fields {
-            good: true,
-            values: v,
-        },
-    }
+        value: values,
+    })
 }

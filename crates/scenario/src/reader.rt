@@ -1,31 +1,17 @@
 // The reader: a machine over lines. What it keeps goes into lent lists, so that a line costs what its bytes cost. A line
 // of the form is read in one pass; any other is read again by its parts, which tell that it is at fault.
-ghost use Rattle.std.specs.Prelude.{◌≡◌, ◌+◌, ◌*◌, ◌<◌, ◌≤◌, min, length, drop, if◌then◌else◌, slice_index, slice_set};
-ghost use Rattle.std.proofs.lemmas.List.Edits.{sets};
-ghost use Rattle.text.specs.Line.{before};
-ghost use Rattle.scenario.specs.Format.{begin, faulted, moved, after, sites_line, count_line, home_line, priority_line, events_line, event_line, event_of, kept, read_into, whole, entries_of};
-ghost use Rattle.scenario.specs.Ahead.{AnyAhead, ValueAhead, EventAhead, LineAhead};
+ghost use Rattle.std.specs.Prelude.{◌≡◌, None, ◌+◌, ◌*◌, ◌<◌, ◌≤◌, min, length, drop, slice_index, slice_set};
+ghost use Rattle.std.specs.Fn.{FnReturnsAt};
+ghost use Rattle.text.specs.Line.{before, value_of as value_in};
+ghost use Rattle.scenario.specs.Format.{begin, faulted, moved, after, sites_line, count_line, home_line, priority_line, events_line, event_line, event_of, kept, kept_all, read_into, whole, entries_of};
+ghost use Rattle.scenario.specs.Ahead.{Ahead as IsAhead, AnyAhead, LineSays, LineAhead};
 
-use crate::ahead::{Line, number_at, seven_at};
+use crate::ahead::{Ahead, number_at, seven_at};
 use crate::{Reading, Want};
 use protocol::Entry;
-use text::{Fields, Number};
-
-// What the value of a line is, and the place of the next line.
-#[derive(Clone, Copy)]
-struct Valued {
-    next: usize,
-    number: Number,
-}
-
-// Where a line takes the reading to, and the place of the next line.
-#[derive(Clone, Copy)]
-struct Turn {
-    next: usize,
-    reading: Reading,
-}
 
 // Before the first line.
+#[tactic(auto, unfolding(crate::specs::Format::begin))]
 fn begin() -> Reading
     ensures { result ≡ begin }
 {
@@ -40,49 +26,13 @@ fn begin() -> Reading
 }
 
 // The wanted line is at fault.
+#[tactic(auto, unfolding(crate::specs::Format::faulted))]
 fn faulted(m: Reading) -> Reading
     ensures { result ≡ faulted m }
 {
     Reading {
         want: Want::Fault,
-        line: m.line,
-        done: m.done,
-        sites: m.sites,
-        count: m.count,
-        events: m.events,
-    }
-}
-
-// The wanted line is there, and another is wanted, of whose kind `done` have been.
-fn moved(m: Reading, want: Want, done: u64) -> Reading
-    requires { m.line < 18446744073709551615 }
-    ensures { result ≡ moved m want done }
-{
-    Reading {
-        want,
-        line: m.line + 1,
-        done,
-        sites: m.sites,
-        count: m.count,
-        events: m.events,
-    }
-}
-
-// The number of sites.
-fn sites_line(m: Reading, n: Number) -> Reading
-    requires { m.line < 18446744073709551615 }
-    ensures { result ≡ sites_line m n }
-{
-    match n {
-        Number::Is(x) => Reading {
-            want: Want::Count,
-            line: m.line + 1,
-            done: 0,
-            sites: x,
-            count: m.count,
-            events: m.events,
-        },
-        Number::Not => faulted(m),
+        ..m
     }
 }
 
@@ -90,92 +40,15 @@ fn sites_line(m: Reading, n: Number) -> Reading
 fn after(done: u64, n: u32, more: Want, next: Want) -> Want
     ensures { result ≡ after done n more next }
 {
-    if done < n as u64 { more } else { next }
-}
-
-// The number of transactions.
-fn count_line(m: Reading, n: Number) -> Reading
-    requires { m.line < 18446744073709551615 }
-    ensures { result ≡ count_line m n }
-{
-    match n {
-        Number::Is(x) => Reading {
-            want: after(0, x, Want::Home, Want::Events),
-            line: m.line + 1,
-            done: 0,
-            sites: m.sites,
-            count: x,
-            events: m.events,
-        },
-        Number::Not => faulted(m),
-    }
-}
-
-// The home of a transaction.
-fn home_line(m: Reading, n: Number) -> Reading
-    requires { m.line < 18446744073709551615 }
-    ensures { result ≡ home_line m n }
-{
-    match n {
-        Number::Is(_) => moved(m, Want::Priority, m.done),
-        Number::Not => faulted(m),
-    }
-}
-
-// The priority of a transaction, after which the next has its home, or the events follow.
-fn priority_line(m: Reading, n: Number) -> Reading
-    requires { (m.line < 18446744073709551615) × (m.done < 18446744073709551615) }
-    ensures { result ≡ priority_line m n }
-{
-    match n {
-        Number::Is(_) => {
-            let done = m.done + 1;
-            moved(m, after(done, m.count, Want::Home, Want::Events), done)
-        }
-        Number::Not => faulted(m),
-    }
-}
-
-// The number of events.
-fn events_line(m: Reading, n: Number) -> Reading
-    requires { m.line < 18446744073709551615 }
-    ensures { result ≡ events_line m n }
-{
-    match n {
-        Number::Is(x) => Reading {
-            want: after(0, x, Want::Event, Want::Nothing),
-            line: m.line + 1,
-            done: 0,
-            sites: m.sites,
-            count: m.count,
-            events: x,
-        },
-        Number::Not => faulted(m),
-    }
-}
-
-// An event.
-fn event_line(m: Reading, f: Fields) -> Reading
-    requires { (m.line < 18446744073709551615) × (m.done < 18446744073709551615) }
-    ensures { result ≡ event_line m f }
-{
-    if f.good {
-        let done = m.done + 1;
-        moved(m, after(done, m.events, Want::Event, Want::Nothing), done)
-    } else {
-        faulted(m)
-    }
+    if done < u64::from(n) { more } else { next }
 }
 
 // The seven numbers of an event's line.
-fn event_of(line: &[u8]) -> Fields
+#[tactic(auto, using(text::specs::Laws::prefix_is), unfolding(crate::specs::Format::event_of, text::specs::Written::bytes))]
+fn event_of(line: &[u8]) -> Option<[u32; 7]>
     ensures { result ≡ event_of line.now }
 {
-    if text::starts(line, b"event=") {
-        text::seven(&line[6..])
-    } else {
-        text::none()
-    }
+    text::seven(line.strip_prefix(b"event=")?)
 }
 
 // Stores x at place k, where the list has that place.
@@ -189,165 +62,255 @@ fn put(list: &mut [u32], k: usize, x: u32)
 
 // Keeps the home of transaction `done`, which is the first of its two places, or its priority, which is the second. The
 // places of a transaction whose number is not below the length are past the end.
-fn keep(homes: &mut [u32], done: u64, k: u64, n: Number)
+#[tactic(auto, unfolding(crate::specs::Format::kept))]
+fn keep(homes: &mut [u32], done: u64, k: u64, n: Option<u32>)
     requires { k < 2 }
     ensures { homes.new ≡ kept homes.old (2 * done + k) n }
 {
-    match n {
-        Number::Is(x) => {
-            if done < homes.len() as u64 {
-                put(homes, (2 * done + k) as usize, x);
-            }
-        }
-        Number::Not => {}
+    let Some(x) = n else {
+        return;
+    };
+    if done < homes.len() as u64 {
+        put(homes, (2 * done + k) as usize, x);
     }
 }
 
 // Keeps the seven numbers of event `done`, whose places are past the end where `done` is not below the length.
-fn keep_event(numbers: &mut [u32], done: u64, f: Fields)
-    ensures { numbers.new ≡ (if f.good then sets numbers.old (7 * done) f.values else numbers.old) }
+#[tactic(auto, unfolding(crate::specs::Format::kept_all))]
+fn keep_event(numbers: &mut [u32], done: u64, f: Option<[u32; 7]>)
+    ensures { numbers.new ≡ kept_all numbers.old (7 * done) f }
 {
-    if f.good {
-        if done < numbers.len() as u64 {
-            let v = f.values;
-            let at = (7 * done) as usize;
-            put(numbers, at, v[0]);
-            put(numbers, at + 1, v[1]);
-            put(numbers, at + 2, v[2]);
-            put(numbers, at + 3, v[3]);
-            put(numbers, at + 4, v[4]);
-            put(numbers, at + 5, v[5]);
-            put(numbers, at + 6, v[6]);
+    let Some(v) = f else {
+        return;
+    };
+    if done < numbers.len() as u64 {
+        let at = 7 * done as usize;
+        for (k, x) in v.iter().enumerate() {
+            put(numbers, at + k, *x);
         }
     }
 }
 
-// Where the line at `at` ends: before its line feed, or where the text ends.
-fn line_feed(text: &[u8], at: usize) -> usize
-    ensures { (result ≡ min at (length text.now) + before 10 (drop at text.now)) × (result ≤ length text.now) }
-{
-    text::upto(text, at, 10)
+// A line that is looked at: how far the text was read before it, the text, and the place where the line begins.
+#[derive(Clone, Copy)]
+struct Cursor<'a> {
+    m: Reading,
+    text: &'a [u8],
+    at: usize,
+    ghost inside: { at < length text.now },
+    ghost line: { m.line < 18446744073709551615 },
+    ghost done: { m.done < 18446744073709551615 },
 }
 
-// The place after the line at `at`.
-fn after_line(text: &[u8], at: usize) -> usize
-    requires { at < length text.now }
-    ensures { AnyAhead text.now at result }
-{
-    let e = line_feed(text, at);
-    if e == text.len() { e } else { e + 1 }
-}
+impl<'a> Cursor<'a> {
+    // The wanted line is there, and another is wanted, of whose kind `done` have been.
+    #[tactic(auto, unfolding(crate::specs::Format::moved))]
+    fn moved(self, want: Want, done: u64) -> Reading
+        ensures { result ≡ moved self.entry.m want done }
+    {
+        Reading {
+            want,
+            line: self.m.line + 1,
+            done,
+            ..self.m
+        }
+    }
 
-// The value of the line at `at`, by its parts. What no line feed ends has none.
-fn value_by_parts(text: &[u8], at: usize, key: &[u8]) -> Valued
-    requires { at < length text.now }
-    ensures { ValueAhead text.now at key.now result.number result.next }
-{
-    let e = line_feed(text, at);
-    if e == text.len() {
-        return Valued {
-            next: e,
-            number: Number::Not,
+    // The number of sites.
+    #[tactic(auto, unfolding(crate::specs::Format::sites_line, crate::specs::Format::moved))]
+    fn sites_line(self, n: Option<u32>) -> Reading
+        ensures { result ≡ sites_line self.entry.m n }
+    {
+        let Some(sites) = n else {
+            return faulted(self.m);
         };
+        Reading {
+            sites,
+            ..self.moved(Want::Count, 0)
+        }
     }
-    Valued {
-        next: e + 1,
-        number: text::value(&text[at..e], key),
-    }
-}
 
-// The value of the line at `at`.
-fn value_of(text: &[u8], at: usize, key: &[u8]) -> Valued
-    requires { (at < length text.now) × (before 10 key.now ≡ length key.now) }
-    ensures { ValueAhead text.now at key.now result.number result.next }
-{
-    if text::starts(&text[at..], key) {
-        let f = number_at(text, at + key.len(), 10);
-        if f.next != 0 {
-            return Valued {
-                next: f.next,
-                number: Number::Is(f.value),
+    // The number of transactions.
+    #[tactic(auto, unfolding(crate::specs::Format::count_line, crate::specs::Format::moved))]
+    fn count_line(self, n: Option<u32>) -> Reading
+        ensures { result ≡ count_line self.entry.m n }
+    {
+        let Some(count) = n else {
+            return faulted(self.m);
+        };
+        Reading {
+            count,
+            ..self.moved(after(0, count, Want::Home, Want::Events), 0)
+        }
+    }
+
+    // The home of a transaction.
+    #[tactic(auto, unfolding(crate::specs::Format::home_line))]
+    fn home_line(self, n: Option<u32>) -> Reading
+        ensures { result ≡ home_line self.entry.m n }
+    {
+        match n {
+            Some(_) => self.moved(Want::Priority, self.m.done),
+            None => faulted(self.m),
+        }
+    }
+
+    // The priority of a transaction, after which the next has its home, or the events follow.
+    #[tactic(auto, unfolding(crate::specs::Format::priority_line))]
+    fn priority_line(self, n: Option<u32>) -> Reading
+        ensures { result ≡ priority_line self.entry.m n }
+    {
+        let done = self.m.done + 1;
+        match n {
+            Some(_) => self.moved(after(done, self.m.count, Want::Home, Want::Events), done),
+            None => faulted(self.m),
+        }
+    }
+
+    // The number of events.
+    #[tactic(auto, unfolding(crate::specs::Format::events_line, crate::specs::Format::moved))]
+    fn events_line(self, n: Option<u32>) -> Reading
+        ensures { result ≡ events_line self.entry.m n }
+    {
+        let Some(events) = n else {
+            return faulted(self.m);
+        };
+        Reading {
+            events,
+            ..self.moved(after(0, events, Want::Event, Want::Nothing), 0)
+        }
+    }
+
+    // An event.
+    #[tactic(auto, unfolding(crate::specs::Format::event_line))]
+    fn event_line(self, f: Option<[u32; 7]>) -> Reading
+        ensures { result ≡ event_line self.entry.m f }
+    {
+        let done = self.m.done + 1;
+        match f {
+            Some(_) => self.moved(after(done, self.m.events, Want::Event, Want::Nothing), done),
+            None => faulted(self.m),
+        }
+    }
+
+    // Where the line ends: before its line feed, or where the text ends.
+    fn line_feed(self) -> usize
+        ensures { (result ≡ min self.entry.at (length self.entry.text.now) + before 10 (drop self.entry.at self.entry.text.now)) × (result ≤ length self.entry.text.now) }
+    {
+        text::upto(self.text, self.at, b'\n')
+    }
+
+    // The line as it is read, by its parts, and the place after it. What no line feed ends says nothing.
+    fn by_parts<T, F: Fn(&[u8]) -> Option<T>>(self, read: F) -> Ahead<Option<T>>
+        requires { F.IsAlwaysCallable read }
+        ensures { IsAhead self.entry.text.now self.entry.at result.next (λ l. FnReturnsAt F.Fn read l result.value) (result.value ≡ None) }
+    {
+        let e = self.line_feed();
+        if e == self.text.len() {
+            return Ahead {
+                next: e,
+                value: None,
             };
         }
-    }
-    value_by_parts(text, at, key)
-}
-
-// The event of the line at `at`, by its parts. What no line feed ends has none.
-fn event_by_parts(text: &[u8], at: usize) -> Line
-    requires { at < length text.now }
-    ensures { EventAhead text.now at result.fields result.next }
-{
-    let e = line_feed(text, at);
-    if e == text.len() {
-        return Line {
-            next: e,
-            fields: text::none(),
-        };
-    }
-    Line {
-        next: e + 1,
-        fields: event_of(&text[at..e]),
-    }
-}
-
-// The event of the line at `at`.
-fn event_at(text: &[u8], at: usize) -> Line
-    requires { at < length text.now }
-    ensures { EventAhead text.now at result.fields result.next }
-{
-    if text::starts(&text[at..], b"event=") {
-        let l = seven_at(text, at + 6);
-        if l.next != 0 {
-            return l;
+        Ahead {
+            next: e + 1,
+            value: read(&self.text[self.at..e]),
         }
     }
-    event_by_parts(text, at)
-}
 
-// A reading and the place of the next line.
-fn turned(next: usize, reading: Reading) -> Turn
-    ensures { (result.next ≡ next) × (result.reading ≡ reading) }
-{
-    Turn { next, reading }
-}
+    // The place after the line.
+    fn after_line(self) -> usize
+        ensures { AnyAhead self.entry.text.now self.entry.at result }
+    {
+        self.by_parts(|_| Some(())).next
+    }
 
-// The line at `at`.
-fn next_line(m: Reading, text: &[u8], at: usize, homes: &mut [u32], numbers: &mut [u32]) -> Turn
-    requires { (m.line < 18446744073709551615) × (m.done < 18446744073709551615) × (at < length text.now) }
-    ensures { LineAhead text.now at m homes.old numbers.old result.reading homes.new numbers.new result.next }
-{
-    let want = m.want;
-    match want {
-        Want::Sites => {
-            let Valued { next, number } = value_of(text, at, b"sites=");
-            turned(next, sites_line(m, number))
+    // The value of the line.
+    fn value_of(self, key: &[u8]) -> Ahead<Option<u32>>
+        requires { before 10 key.now ≡ length key.now }
+        ensures { LineSays self.entry.text.now self.entry.at (value_in key.now) result.value result.next }
+    {
+        if text::starts(&self.text[self.at..], key) {
+            if let Some(f) = number_at(self.text, self.at + key.len(), b'\n') {
+                return f.said();
+            }
         }
-        Want::Count => {
-            let Valued { next, number } = value_of(text, at, b"transactions=");
-            turned(next, count_line(m, number))
+        self.by_parts(|line| text::value(line, key))
+    }
+
+    // The event of the line.
+    fn event_at(self) -> Ahead<Option<[u32; 7]>>
+        ensures { LineSays self.entry.text.now self.entry.at event_of result.value result.next }
+    {
+        if text::starts(&self.text[self.at..], b"event=") {
+            if let Some(f) = seven_at(self.text, self.at + 6) {
+                return f.said();
+            }
         }
-        Want::Home => {
-            let Valued { next, number } = value_of(text, at, b"master=");
-            keep(homes, m.done, 0, number);
-            turned(next, home_line(m, number))
+        self.by_parts(event_of)
+    }
+
+    // Where the line takes the reading to, and the place after the line.
+    #[tactic(auto, unfolding(text::specs::Line::before))]
+    fn next_line(self, homes: &mut [u32], numbers: &mut [u32]) -> Ahead<Reading>
+        ensures { LineAhead self.entry.text.now self.entry.at self.entry.m homes.old numbers.old result.value homes.new numbers.new result.next }
+    {
+        let m = self.m;
+        match m.want {
+            Want::Sites => {
+                let Ahead { next, value } = self.value_of(b"sites=");
+                Ahead {
+                    next,
+                    value: self.sites_line(value),
+                }
+            }
+            Want::Count => {
+                let Ahead { next, value } = self.value_of(b"transactions=");
+                Ahead {
+                    next,
+                    value: self.count_line(value),
+                }
+            }
+            Want::Home => {
+                let Ahead { next, value } = self.value_of(b"master=");
+                keep(homes, m.done, 0, value);
+                Ahead {
+                    next,
+                    value: self.home_line(value),
+                }
+            }
+            Want::Priority => {
+                let Ahead { next, value } = self.value_of(b"priority=");
+                keep(homes, m.done, 1, value);
+                Ahead {
+                    next,
+                    value: self.priority_line(value),
+                }
+            }
+            Want::Events => {
+                let Ahead { next, value } = self.value_of(b"events=");
+                Ahead {
+                    next,
+                    value: self.events_line(value),
+                }
+            }
+            Want::Event => {
+                let Ahead { next, value } = self.event_at();
+                keep_event(numbers, m.done, value);
+                Ahead {
+                    next,
+                    value: self.event_line(value),
+                }
+            }
+            Want::Nothing => Ahead {
+                next: self.after_line(),
+                value: faulted(m),
+            },
+            Want::Fault => Ahead {
+                next: self.after_line(),
+                value: m,
+            },
         }
-        Want::Priority => {
-            let Valued { next, number } = value_of(text, at, b"priority=");
-            keep(homes, m.done, 1, number);
-            turned(next, priority_line(m, number))
-        }
-        Want::Events => {
-            let Valued { next, number } = value_of(text, at, b"events=");
-            turned(next, events_line(m, number))
-        }
-        Want::Event => {
-            let Line { next, fields } = event_at(text, at);
-            keep_event(numbers, m.done, fields);
-            turned(next, event_line(m, fields))
-        }
-        Want::Nothing => turned(after_line(text, at), faulted(m)),
-        Want::Fault => turned(after_line(text, at), m),
     }
 }
 
@@ -356,56 +319,36 @@ pub fn read(text: &[u8], homes: &mut [u32], numbers: &mut [u32]) -> Reading
     ensures { (result ≡ (read_into homes.old numbers.old text.now).reading) × (homes.new ≡ (read_into homes.old numbers.old text.now).homes) × (numbers.new ≡ (read_into homes.old numbers.old text.now).numbers) }
 {
     let mut m = begin();
-    let mut at: usize = 0;
+    let mut at = 0;
     while at < text.len() {
-        let t = next_line(m, text, at, homes, numbers);
-        let r = t.reading;
-        m = r;
-        at = t.next;
+        let Ahead { next, value } = Cursor { m, text, at }.next_line(homes, numbers);
+        m = value;
+        at = next;
     }
     m
 }
 
 // All that the text announces was there, and nothing after it.
+#[tactic(auto, unfolding(crate::specs::Format::whole))]
 pub fn whole(m: Reading) -> bool
     ensures { result ≡ whole m.want }
 {
-    let want = m.want;
-    match want {
-        Want::Sites => false,
-        Want::Count => false,
-        Want::Home => false,
-        Want::Priority => false,
-        Want::Events => false,
-        Want::Event => false,
-        Want::Nothing => true,
-        Want::Fault => false,
-    }
+    matches!(m.want, Want::Nothing)
 }
 
 // What stands at place k, or 0 where the list has no such place.
 fn stored_at(list: &[u32], k: usize) -> u32
     ensures { result ≡ slice_index list.now k }
 {
-    if k < list.len() { list[k] } else { 0 }
+    list.get(k).copied().unwrap_or(0)
 }
 
 // The entries for setup: of each transaction the home and the priority that were read.
 pub fn entries_of(homes: &[u32]) -> [Entry; 32]
     ensures { result ≡ entries_of homes.now }
 {
-    let none = Entry {
-        home: 0,
-        priority: 0,
-    };
-    let mut entries = [none; 32];
-    let mut t: usize = 0;
-    while t < 32 {
-        entries[t] = Entry {
-            home: stored_at(homes, 2 * t),
-            priority: stored_at(homes, 2 * t + 1),
-        };
-        t += 1;
-    }
-    entries
+    std::array::from_fn(|t| Entry {
+        home: stored_at(homes, 2 * t),
+        priority: stored_at(homes, 2 * t + 1),
+    })
 }

@@ -1,17 +1,17 @@
 -- What follows from the definitions: a decimal is read as n where, and only where, it is the writing of n; where the
 -- parts of a list lie, and that they make it up; and that a line has the value n where, and only where, it is the key and
 -- the writing of n.
-use Rattle.std.specs.Prelude.{◌≡◌, refl, Bool, true, false, cond, ◌&&◌, List, [], ◌∷◌, ◌++◌, map, ◌⊎◌, ℕ, zero, suc, ◌+◌, ◌-◌, ◌*◌, ◌/◌, ◌%◌, ◌^◌, ◌≤◌, ◌<◌, min, length, take, drop, set, ◌==◌, nat_le, nat_lt, slice_index_or}
+use Rattle.std.specs.Prelude.{◌≡◌, refl, Bool, true, false, cond, ◌&&◌, Option, Some, None, List, [], ◌∷◌, ◌++◌, map, ◌⊎◌, ℕ, zero, suc, ◌+◌, ◌-◌, ◌*◌, ◌/◌, ◌%◌, ◌^◌, ◌≤◌, ◌<◌, min, length, take, drop, set, ◌==◌, nat_eq, nat_le, nat_lt, slice_index_or}
 use Rattle.std.proofs.Common.{sym, ap, ap₂, ◌∙◌, append_assoc, append-nil, inl, inr, ⊎_elim, pow-suc, add-one, arith, length-append, length-drop, take_all, take-suc-set, drop-drop, lt-ltb, le-ltb, le-leb, eq-eqb, ne_eqb, leb-true, ltb-true, ltb-false, eqb-true}
 use Rattle.std.proofs.lemmas.Bool.{false≢true, eqb-false}
+use Rattle.std.specs.Option.{option_map, option_and_then}
+use Rattle.std.specs.Cmp.Lexicographic.{pointwise}
 use Rattle.std.proofs.lemmas.List.{map-append, length-map}
 use Rattle.std.proofs.Math.Arith.{lt_of_le-ne}
 use Rattle.std.proofs.Math.ListN.{get_or-append}
 use Rattle.std.proofs.Math.Seq.{drop-append_seam}
-use Rattle.text.specs.Decimal.{goes_on, number_of, digits, digits_by}
-use Rattle.text.specs.Line.{before, cut, parts, starts, value_of, the_number, all_numbers, fields_by, fields_of}
-use Rattle.text.specs.declared.Number.{Number}
-use Rattle.text.specs.declared.Number.TheVariants.{Is, Not}
+use Rattle.text.specs.Decimal.{is_digit, goes_on, number_of, digits, digits_by}
+use Rattle.text.specs.Line.{before, cut, parts, starts, value_of, numbers_in, fields_by, fields_of}
 
 -- ---- the writing of a number
 
@@ -72,23 +72,23 @@ digits_some n g =
 -- ---- one byte of a decimal
 
 -- no number is none
-no : (n : ℕ) → Not ≡ Is n → ⊥
+no : (n : ℕ) → None ≡ Some n → ⊥
 no n e = let z : ◌≡◌ {A = ℕ} 0 1 = cc in omega arith
 
 -- what is known of a byte b where the number v goes on to n with it and the rest
-record Digit (v b n : ℕ) (l : List ℕ) : Type 0 where
-  low : 48 ≤ b
-  high : b ≤ 57
-  fits : v * 10 + (b - 48) < 4294967296
-  rest : goes_on (v * 10 + (b - 48)) l ≡ Is n
+pub record Digit (v b n : ℕ) (l : List ℕ) : Type 0 where
+  pub low : 48 ≤ b
+  pub high : b ≤ 57
+  pub fits : v * 10 + (b - 48) < 4294967296
+  pub rest : goes_on (v * 10 + (b - 48)) l ≡ Some n
 
 -- where a number goes on, the next byte is a digit and it fits
-went_on : (v b n : ℕ) (l : List ℕ) → goes_on v (b ∷ l) ≡ Is n → Digit v b n l
+pub went_on : (v b n : ℕ) (l : List ℕ) → goes_on v (b ∷ l) ≡ Some n → Digit v b n l
 unfolding goes_on
 went_on v b n l e = go (nat_le 48 b) (nat_le b 57) (nat_lt (v * 10 + (b - 48)) 4294967296) refl refl refl e
   where
     go : (s t u : Bool) → nat_le 48 b ≡ s → nat_le b 57 ≡ t → nat_lt (v * 10 + (b - 48)) 4294967296 ≡ u
-        → cond (s && t) (cond u (goes_on (v * 10 + (b - 48)) l) Not) Not ≡ Is n
+        → cond (s && t) (cond u (goes_on (v * 10 + (b - 48)) l) None) None ≡ Some n
         → Digit v b n l
     go true true true i j k f =
         record { low = leb-true 48 b i; high = leb-true b 57 j; fits = ltb-true _ _ k; rest = f }
@@ -102,16 +102,27 @@ pub goes_on_lem : (v b : ℕ) (l : List ℕ) → 48 ≤ b → b ≤ 57 → v * 1
 unfolding goes_on
 goes_on_lem v b l h g f = simp (le-leb 48 b h, le-leb b 57 g, lt-ltb (v * 10 + (b - 48)) 4294967296 f)
 
+-- the first byte takes it on, and then the others do
+pub goes_first : (v b : ℕ) (l : List ℕ) → goes_on v (b ∷ l) ≡ option_and_then (λ w. goes_on w l) (goes_on v (b ∷ []))
+unfolding goes_on
+goes_first v b l = go (is_digit b) (nat_lt (v * 10 + (b - 48)) 4294967296)
+  where
+    go : (s t : Bool) → cond s (cond t (goes_on (v * 10 + (b - 48)) l) None) None
+        ≡ option_and_then (λ w. goes_on w l) (cond s (cond t (Some (v * 10 + (b - 48))) None) None)
+    go true true = refl
+    go true false = refl
+    go false t = refl
+
 -- ---- a decimal is its digits, but for zeros in front
 
 -- no byte at all
-pub number_none : (l : List ℕ) → length l ≡ 0 → number_of l ≡ Not
+pub number_none : (l : List ℕ) → length l ≡ 0 → number_of l ≡ None
 unfolding number_of
 number_none [] h = refl
 number_none (b ∷ l) h = absurd (omega arith)
 
 -- a zero with more after it
-pub number_zero : (l : List ℕ) → 1 < length l → slice_index_or l 0 0 ≡ 48 → number_of l ≡ Not
+pub number_zero : (l : List ℕ) → 1 < length l → slice_index_or l 0 0 ≡ 48 → number_of l ≡ None
 unfolding number_of
 number_zero [] h e = refl
 number_zero (b ∷ []) h e = absurd (omega arith)
@@ -132,57 +143,57 @@ number_many (b ∷ []) h g = refl
 number_many (b ∷ c ∷ l) h g = simp (ne_eqb b 48 g)
 
 -- what is a decimal is its digits
-number_goes : (l : List ℕ) (n : ℕ) → number_of l ≡ Is n → goes_on 0 l ≡ Is n
+number_goes : (l : List ℕ) (n : ℕ) → number_of l ≡ Some n → goes_on 0 l ≡ Some n
 unfolding number_of
 number_goes [] n e = absurd (no n e)
 number_goes (b ∷ []) n e = e
 number_goes (b ∷ c ∷ l) n e = go (b == 48) e
   where
-    go : (t : Bool) → cond t Not (goes_on 0 (b ∷ c ∷ l)) ≡ Is n → goes_on 0 (b ∷ c ∷ l) ≡ Is n
+    go : (t : Bool) → cond t None (goes_on 0 (b ∷ c ∷ l)) ≡ Some n → goes_on 0 (b ∷ c ∷ l) ≡ Some n
     go true f = absurd (no n f)
     go false f = f
 
 -- a number that fits goes on to one that fits
-goes_fits : (l : List ℕ) (v n : ℕ) → v < 4294967296 → goes_on v l ≡ Is n → n < 4294967296
+goes_fits : (l : List ℕ) (v n : ℕ) → v < 4294967296 → goes_on v l ≡ Some n → n < 4294967296
 unfolding goes_on
 goes_fits [] v n h e = let w : v ≡ n = cc in omega arith
 goes_fits (b ∷ l) v n h e = let d = went_on v b n l e in goes_fits l (v * 10 + (b - 48)) n d.fits d.rest
 
 -- a decimal is a number of 32 bits
-pub number_fits : (l : List ℕ) (n : ℕ) → number_of l ≡ Is n → n < 4294967296
+pub number_fits : (l : List ℕ) (n : ℕ) → number_of l ≡ Some n → n < 4294967296
 number_fits l n e = goes_fits l 0 n (omega arith) (number_goes l n e)
 
 -- ---- what is written is read
 
 -- one digit more
-goes-more : (l : List ℕ) (v m d : ℕ) → d < 10 → m * 10 + d < 4294967296 → goes_on v l ≡ Is m
-    → goes_on v (l ++ ((48 + d) ∷ [])) ≡ Is (m * 10 + d)
+goes-more : (l : List ℕ) (v m d : ℕ) → d < 10 → m * 10 + d < 4294967296 → goes_on v l ≡ Some m
+    → goes_on v (l ++ ((48 + d) ∷ [])) ≡ Some (m * 10 + d)
 unfolding goes_on
 goes-more [] v m d h g e =
     let w : v ≡ m = cc in
     let z : v * 10 + (48 + d - 48) ≡ m * 10 + d = omega arith in
-    goes_on_lem v (48 + d) [] (omega arith) (omega arith) (omega arith) ∙ ap Is z
+    goes_on_lem v (48 + d) [] (omega arith) (omega arith) (omega arith) ∙ ap Some z
 goes-more (b ∷ l) v m d h g e =
     let w = went_on v b m l e in
     goes_on_lem v b (l ++ ((48 + d) ∷ [])) w.low w.high w.fits
     ∙ goes-more l (v * 10 + (b - 48)) m d h g w.rest
 
 -- one digit is read as it is written
-low_read : (n : ℕ) → n < 10 → goes_on 0 (digits n) ≡ Is n
+low_read : (n : ℕ) → n < 10 → goes_on 0 (digits n) ≡ Some n
 unfolding goes_on
 low_read n h =
     let z : 0 * 10 + (48 + n - 48) ≡ n = omega arith in
-    ap (goes_on 0) (digits_low n h) ∙ goes_on_lem 0 (48 + n) [] (omega arith) (omega arith) (omega arith) ∙ ap Is z
+    ap (goes_on 0) (digits_low n h) ∙ goes_on_lem 0 (48 + n) [] (omega arith) (omega arith) (omega arith) ∙ ap Some z
 
 -- the digits of a number go on to that number
-goes-digits : (k n : ℕ) → n < 10 ^ k → n < 4294967296 → goes_on 0 (digits n) ≡ Is n
+goes-digits : (k n : ℕ) → n < 10 ^ k → n < 4294967296 → goes_on 0 (digits n) ≡ Some n
 goes-digits zero n h g = low_read n (omega arith)
 goes-digits (suc k) n h g =
     ⊎_elim (low_read n)
     (λ l. ap (goes_on 0) (digits_high n l g)
     ∙ goes-more (digits (n / 10)) 0 (n / 10) (n % 10) (omega arith) (omega arith)
     (goes-digits k (n / 10) (omega (arith, pow-suc 10 k)) (omega arith))
-    ∙ ap Is tenth)
+    ∙ ap Some tenth)
     (lt_or_ge n 10)
   where
     tenth : n / 10 * 10 + n % 10 ≡ n
@@ -202,7 +213,7 @@ first-digit (suc k) n h g p =
     (lt_or_ge n 10)
 
 -- the writing of a number of 32 bits is read as that number
-pub read_back : (n : ℕ) → n < 4294967296 → number_of (digits n) ≡ Is n
+pub read_back : (n : ℕ) → n < 4294967296 → number_of (digits n) ≡ Some n
 read_back n g =
     ⊎_elim (λ h. number_one (digits n) some (omega (arith, ap length (digits_low n h))))
     (λ h. number_many (digits n) some (λ e. omega (arith, first-digit 10 n (omega arith) g (omega arith))))
@@ -223,7 +234,7 @@ digits_more v b p h g f =
     digits_high (v * 10 + (b - 48)) (omega arith) f ∙ ap₂ (λ (x y : ℕ). digits x ++ (y ∷ [])) d m
 
 -- what v goes on to is written as v, and then the bytes that it goes on with
-rest_written : (l : List ℕ) (v n : ℕ) → 0 < v → v < 4294967296 → goes_on v l ≡ Is n → digits n ≡ digits v ++ l
+rest_written : (l : List ℕ) (v n : ℕ) → 0 < v → v < 4294967296 → goes_on v l ≡ Some n → digits n ≡ digits v ++ l
 unfolding goes_on
 rest_written [] v n p g e = let w : n ≡ v = cc in ap digits w ∙ sym (append-nil (digits v))
 rest_written (b ∷ l) v n p g e =
@@ -239,13 +250,13 @@ first_written b v h g e =
     digits_low v (omega arith) ∙ ap (λ (x : ℕ). x ∷ []) w
 
 -- what is read as n is the writing of n
-pub print_back : (l : List ℕ) (n : ℕ) → number_of l ≡ Is n → digits n ≡ l
+pub print_back : (l : List ℕ) (n : ℕ) → number_of l ≡ Some n → digits n ≡ l
 unfolding number_of goes_on
 print_back [] n e = absurd (no n e)
 print_back (b ∷ []) n e = let w = went_on 0 b n [] e in first_written b n w.low w.high (cc w.rest)
 print_back (b ∷ c ∷ l) n e = go (b == 48) refl e
   where
-    go : (t : Bool) → (b == 48) ≡ t → cond t Not (goes_on 0 (b ∷ c ∷ l)) ≡ Is n → digits n ≡ b ∷ c ∷ l
+    go : (t : Bool) → (b == 48) ≡ t → cond t None (goes_on 0 (b ∷ c ∷ l)) ≡ Some n → digits n ≡ b ∷ c ∷ l
     go true q f = absurd (no n f)
     go false q f =
         let w = went_on 0 b n (c ∷ l) f in
@@ -424,6 +435,13 @@ joined-parts b (x ∷ l) = go (x == b) refl (parts b l) (parts_some b l) (joined
 
 -- ---- a key and a decimal
 
+-- a line starts with a key byte by byte, as the library's `strip_prefix` compares
+pub prefix_is : (key s : List ℕ) → starts key s ≡ pointwise nat_eq (take (length key) s) key
+unfolding starts
+prefix_is [] s = refl
+prefix_is (k ∷ key) [] = refl
+prefix_is (k ∷ key) (x ∷ s) = ap (λ (t : Bool). x == k && t) (prefix_is key s)
+
 -- a key and more starts with the key
 pub starts_key : (key l : List ℕ) → starts key (key ++ l) ≡ true
 unfolding starts
@@ -444,58 +462,51 @@ key_starts (k ∷ key) (x ∷ l) h = go (x == k) refl h (key_starts key l)
     go false e h r = absurd (false≢true h)
 
 -- a key and the writing of a number of 32 bits have that number as their value ..
-pub value_written : (key : List ℕ) (n : ℕ) → n < 4294967296 → value_of key (key ++ digits n) ≡ Is n
+pub value_written : (key : List ℕ) (n : ℕ) → n < 4294967296 → value_of key (key ++ digits n) ≡ Some n
 unfolding value_of
 value_written key n h = rw (starts_key key (digits n), drop-append_seam key (digits n)) (read_back n h)
 
 -- what has a value starts with the key, and what comes after the key is the value's decimal
-valued : (key l : List ℕ) (n : ℕ) → value_of key l ≡ Is n
-    → (starts key l ≡ true) × (number_of (drop (length key) l) ≡ Is n)
+valued : (key l : List ℕ) (n : ℕ) → value_of key l ≡ Some n
+    → (starts key l ≡ true) × (number_of (drop (length key) l) ≡ Some n)
 unfolding value_of
 valued key l n e = go (starts key l) refl e
   where
-    go : (t : Bool) → starts key l ≡ t → cond t (number_of (drop (length key) l)) Not ≡ Is n
-        → (starts key l ≡ true) × (number_of (drop (length key) l) ≡ Is n)
+    go : (t : Bool) → starts key l ≡ t → cond t (number_of (drop (length key) l)) None ≡ Some n
+        → (starts key l ≡ true) × (number_of (drop (length key) l) ≡ Some n)
     go true s f = (s, f)
     go false s f = absurd (no n f)
 
 -- .. so only they have it ..
-pub value_read : (key l : List ℕ) (n : ℕ) → value_of key l ≡ Is n → key ++ digits n ≡ l
+pub value_read : (key l : List ℕ) (n : ℕ) → value_of key l ≡ Some n → key ++ digits n ≡ l
 value_read key l n e =
     let v = valued key l n e in
     ap (λ (m : List ℕ). key ++ m) (print_back (drop (length key) l) n v.1) ∙ key_starts key l v.0
 
 -- .. and it is a number of 32 bits
-pub value_fits : (key l : List ℕ) (n : ℕ) → value_of key l ≡ Is n → n < 4294967296
+pub value_fits : (key l : List ℕ) (n : ℕ) → value_of key l ≡ Some n → n < 4294967296
 value_fits key l n e = number_fits (drop (length key) l) n (valued key l n e).1
 
 -- ---- seven values
 
 -- numbers are all numbers
-all_are : (v : List ℕ) → all_numbers (map Is v) ≡ true
-unfolding all_numbers
-all_are [] = refl
-all_are (x ∷ v) = all_are v
-
--- and they are those they were
-values_back : (v : List ℕ) → map the_number (map Is v) ≡ v
-values_back [] = refl
-values_back (x ∷ v) = ap (λ (l : List ℕ). x ∷ l) (values_back v)
+pub numbers_are : (v : List ℕ) → numbers_in (map Some v) ≡ Some v
+unfolding numbers_in
+numbers_are [] = refl
+numbers_are (x ∷ v) = ap (option_map (λ (l : List ℕ). x ∷ l)) (numbers_are v)
 
 -- the values where there are seven numbers
-pub fields_seven : (s v : List ℕ) → length v ≡ 7 → map number_of (parts 44 s) ≡ map Is v
-    → record { good = true; values = v } ≡ fields_of s
+pub fields_seven : (s v : List ℕ) → length v ≡ 7 → map number_of (parts 44 s) ≡ map Some v → Some v ≡ fields_of s
 unfolding fields_of fields_by
-fields_seven s v h e =
-    rw (e, eq-eqb (length (map Is v)) 7 (length-map v Is ∙ h), all_are v, values_back v)
+fields_seven s v h e = rw (e, eq-eqb (length (map Some v)) 7 (length-map v Some ∙ h), numbers_are v)
 
 -- one value more
-pub value_more : (v : List ℕ) (k x : ℕ) (ns : List Number) → k < length v
-    → map Is (take k v) ++ (Is x ∷ ns) ≡ map Is (take (k + 1) (set v k x)) ++ ns
+pub value_more : (v : List ℕ) (k x : ℕ) (ns : List (Option ℕ)) → k < length v
+    → map Some (take k v) ++ (Some x ∷ ns) ≡ map Some (take (k + 1) (set v k x)) ++ ns
 value_more v k x ns h =
     sym
-    (rw (add-one k, take-suc-set v k x h, map-append Is (take k v) (x ∷ []))
-    (append_assoc (map Is (take k v)) (Is x ∷ []) ns))
+    (rw (add-one k, take-suc-set v k x h, map-append Some (take k v) (x ∷ []))
+    (append_assoc (map Some (take k v)) (Some x ∷ []) ns))
 
 -- ---- a key
 

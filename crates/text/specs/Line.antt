@@ -1,10 +1,8 @@
 -- 01, "Scenario and report": "Key=value lines, each ended by one line feed", and "the seven fields and commas". A line
 -- here is what stands before its line feed.
-use Rattle.std.specs.Prelude.{Bool, true, false, cond, ◌&&◌, List, [], ◌∷◌, map, ℕ, suc, length, drop, replicate, ◌==◌}
+use Rattle.std.specs.Prelude.{Bool, true, false, cond, ◌&&◌, Option, Some, None, List, [], ◌∷◌, map, ℕ, suc, length, drop, ◌==◌}
+use Rattle.std.specs.Option.{option_map}
 use Rattle.text.specs.Decimal.{number_of}
-use Rattle.text.specs.declared.Number.{Number}
-use Rattle.text.specs.declared.Number.TheVariants.{Is, Not}
-use Rattle.text.specs.declared.Fields.{Fields}
 
 -- how many bytes stand before the first b: all of them where there is none
 unfoldable pub before : ℕ → List ℕ → ℕ
@@ -29,33 +27,19 @@ starts (k ∷ key) [] = false
 starts (k ∷ key) (x ∷ l) = x == k && starts key l
 
 -- the value of a line that is the key and one decimal
-unfoldable pub value_of : List ℕ → List ℕ → Number
-value_of key l = cond (starts key l) (number_of (drop (length key) l)) Not
+unfoldable pub value_of : List ℕ → List ℕ → Option ℕ
+value_of key l = cond (starts key l) (number_of (drop (length key) l)) None
 
--- no values
-abbrev pub no_fields : Fields
-no_fields = record { good = false; values = replicate 7 0 }
+-- the numbers of a list, where all of it are numbers
+unfoldable pub numbers_in : List (Option ℕ) → Option (List ℕ)
+numbers_in [] = Some []
+numbers_in (None ∷ ns) = None
+numbers_in (Some n ∷ ns) = option_map (λ l. n ∷ l) (numbers_in ns)
 
--- it is a number
-abbrev pub is_number : Number → Bool
-is_number (Is n) = true
-is_number Not = false
-
--- which number it is: 0 where it is none
-abbrev pub the_number : Number → ℕ
-the_number (Is n) = n
-the_number Not = 0
-
--- all of them are numbers
-unfoldable pub all_numbers : List Number → Bool
-all_numbers [] = true
-all_numbers (n ∷ ns) = is_number n && all_numbers ns
-
--- the values of seven numbers in their order; no values where there are more or fewer, or where one is no number
-unfoldable pub fields_by : List Number → Fields
-fields_by ns =
-    cond (length ns == 7 && all_numbers ns) (record { good = true; values = map the_number ns }) no_fields
+-- the values of seven numbers in their order; none where there are more or fewer, or where one is no number
+unfoldable pub fields_by : List (Option ℕ) → Option (List ℕ)
+fields_by ns = cond (length ns == 7) (numbers_in ns) None
 
 -- the values of a line whose parts between the commas are seven decimals
-unfoldable pub fields_of : List ℕ → Fields
+unfoldable pub fields_of : List ℕ → Option (List ℕ)
 fields_of l = fields_by (map number_of (parts 44 l))

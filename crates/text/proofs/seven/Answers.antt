@@ -1,38 +1,42 @@
-use Rattle.std.proofs.Common.{refl, sym, ◌∙◌, arith}
-use Rattle.text.proofs.Steps.{part_not, part_more, too_few, too_many}
+use Rattle.std.proofs.Common.{◌==◌, ◌∙◌, refl, arith, rules, tests, of_calls}
+use Rattle.std.proofs.lemmas.Iterator.Splits.{YieldsList-from_slice_split}
+use Rattle.text.specs.Line.{parts}
+use Rattle.text.proofs.Steps.{parts_are, too_few, seven_read, part_not, part_more, too_many}
 use Rattle.text.proofs.seven.Goals as goal
 
-pub loop-k-init : goal.loop-k-init
-loop-k-init c = record { few = omega arith; size = refl; inside = omega arith; so_far = refl }
+pub loop-v-init : goal.loop-v-init
+loop-v-init c = record {
+  callable = search of_calls;
+  finite = tt;
+  values = record {
+    size = refl;
+    left = parts 44 c.args.s.now;
+    yields = rw (← parts_are 44 c.args.s.now)
+        (YieldsList-from_slice_split _ (λ x. x == 44) c.args.s.now c.split-parts.ensures.rest c.split-parts.ensures.done c.split-parts.ensures.closure
+        (λ x b q k. search (rules, tests)));
+    so_far = refl;
+  };
+}
 
-pub returns-in-Not : goal.returns-in-Not
-returns-in-Not c =
-    c.none.ensures
-    ∙ part_not
-    c.loop-k.invariant
-    c.upto-e.ensures.0
-    (sym c.decimal.ensures ∙ c.in-Not.is)
+pub returns-in_err-next : goal.returns-in_err-next
+returns-in_err-next c =
+    c.from_residual.ensures
+    ∙ too_few _ _ {q = c.next.new.self} c.loop-v.invariant.values (omega arith) c.in_err-next.ensures.steps
 
-pub returns-then-e-s : goal.returns-then-e-s
-returns-then-e-s c =
-    c.none-then-e-s.ensures
-    ∙ too_few
-    c.loop-k.invariant
-    c.upto-e.ensures.0
-    (sym c.decimal.ensures ∙ c.in-Is.is)
-    (omega arith)
-    c.if-e-s.true
-    (omega arith)
+pub returns-in_err-v : goal.returns-in_err-v
+returns-in_err-v c =
+    c.from_residual-in_err-v.ensures
+    ∙ part_not _ _ {q = c.next.new.self} c.loop-v.invariant.values {x = c.in_ok-next.field-0} c.in_ok-next.ensures.steps c.in_err-v.ensures
 
-pub loop-k-preserved : goal.loop-k-preserved
-loop-k-preserved c =
-    part_more
-    c.loop-k.invariant
-    c.upto-e.ensures.0
-    (sym c.decimal.ensures ∙ c.in-Is.is)
-    (omega arith)
-    c.if-e-s.false
-    c.upto-e.ensures.1
+pub loop-v-preserved : goal.loop-v-preserved
+loop-v-preserved c = record {
+  callable = search of_calls;
+  finite = tt;
+  values = part_more _ _ c.loop-v.invariant.values {x = c.in_ok-next.field-0} c.in_ok-next.ensures.steps (omega arith) c.in_ok-v.ensures;
+}
 
-pub returns : goal.returns
-returns c = c.none-2.ensures ∙ too_many c.loop-k.invariant (omega arith)
+pub returns-in-Some : goal.returns-in-Some
+returns-in-Some c = too_many _ _ {q = c.next-2.new.self} c.loop-v.invariant.values {x = c.in-Some.field-0} c.in-Some.ensures.steps (omega arith)
+
+pub returns-in-None : goal.returns-in-None
+returns-in-None c = seven_read _ _ {q = c.next-2.new.self} c.loop-v.invariant.values (omega arith) c.in-None.ensures.steps

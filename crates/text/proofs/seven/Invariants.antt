@@ -1,10 +1,10 @@
--- The parts before `at` are the first k values, and a turn reads the part up to the next comma.
-use Rattle.std.proofs.Common.{◌-◌}
+-- The first values are the first parts, and the library gives the others.
 use Rattle.text.proofs.Steps.{Values}
 use Rattle.text.proofs.seven.Given as goal
 
-abbrev pub invariant-loop-k : goal.invariant-loop-k
-invariant-loop-k l = Values l.s l.v l.k l.at
-
-abbrev pub decreases-loop-k : goal.decreases-loop-k
-decreases-loop-k l = 7 - l.k
+abbrev pub invariant-loop-v : goal.invariant-loop-v
+invariant-loop-v l = record {
+  callable : (goal.iterator-loop-v).can_next l.parts;
+  finite : (goal.iterator-loop-v).is_finite l.parts;
+  values : Values (goal.iterator-loop-v).next_gives (λ x. x.now) l.s l.v-items l.v-index l.parts;
+}

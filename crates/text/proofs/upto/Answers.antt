@@ -1,18 +1,17 @@
-use Rattle.std.proofs.Common.{arith}
-use Rattle.text.proofs.Steps.{sought_past, found_here, passed_more, passed_all}
+-- The library looks for the byte in the rest of the list.
+use Rattle.std.proofs.Common.{◌∙◌, ⊎_elim, ◌==◌, arith, rules, tests}
+use Rattle.std.proofs.lemmas.Iterator.{YieldsList-from_slice}
+use Rattle.std.proofs.lemmas.Iterator.Search.{position_from_yields_List}
+use Rattle.text.proofs.Steps.{found_is, sought_past, sought_from}
 use Rattle.text.proofs.upto.Goals as goal
 
-pub returns-then-at-n : goal.returns-then-at-n
-returns-then-at-n c = sought_past c.args.s.now c.args.at c.args.b c.if-at-n.true
-
-pub loop-i-init : goal.loop-i-init
-loop-i-init c = record { inside = omega arith; so_far = omega arith }
-
-pub returns-then-s-i : goal.returns-then-s-i
-returns-then-s-i c = found_here c.loop-i.invariant (omega arith) c.if-s-i.true
-
-pub loop-i-preserved : goal.loop-i-preserved
-loop-i-preserved c = passed_more c.loop-i.invariant (omega arith) c.if-s-i.false
+pub returns-in_default : goal.returns-in_default
+returns-in_default c = sought_past _ _ _ (⊎_elim (λ h. h) (λ h. absurd (omega arith)) c.in_default.ensures.lookup.0)
 
 pub returns : goal.returns
-returns c = passed_all c.loop-i.invariant (omega arith)
+returns c =
+    sought_from _ _ _ _ _ c.in-Some.ensures.lookup.0.0 c.in-Some.ensures.lookup.0.2
+    (c.unwrap_or.ensures
+    ∙ found_is _ _ _
+    (position_from_yields_List (λ x. x == c.args.b) _ _ _ c.position.ensures.ran (YieldsList-from_slice c.in-Some.rest.now (cc))
+    (λ x b q k. search (rules, tests))))

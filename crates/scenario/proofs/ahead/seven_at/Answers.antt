@@ -5,13 +5,8 @@ use Rattle.scenario.proofs.ahead.seven_at.Goals as goal
 pub loop-k-init : goal.loop-k-init
 loop-k-init c = line_begun _ _ _ refl
 
-pub returns-then-f-eq0 : goal.returns-then-f-eq0
-returns-then-f-eq0 c = λ h. absurd (omega arith)
-
 pub loop-k-preserved : goal.loop-k-preserved
-loop-k-preserved c =
-    begun_more c.loop-k.invariant _ (c.number_at-f.ensures (omega arith))
-    (omega arith)
+loop-k-preserved c = begun_more c.loop-k.invariant _ c.in_ok-f.ensures (omega arith)
 
 pub returns : goal.returns
-returns c = λ h. begun_all c.loop-k.invariant _ (c.number_at-f-2.ensures h) (omega arith)
+returns c = begun_all c.loop-k.invariant _ c.in_ok-f-2.ensures (omega arith)

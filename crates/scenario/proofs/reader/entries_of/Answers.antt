@@ -1,16 +1,15 @@
-use Rattle.std.proofs.Common.{rules}
-use Rattle.scenario.proofs.Filling.{filled_none, filled_next, filled_all}
+-- Each entry is what the closure gives for its number.
+use Rattle.std.proofs.Common.{◌+◌, ◌*◌, rules, slice_index_or}
+use Rattle.scenario.proofs.Made.{made_table}
 use Rattle.scenario.specs.Format.{entries_in}
 use Rattle.scenario.proofs.reader.entries_of.Goals as goal
 
-pub loop-t-init : goal.loop-t-init
-loop-t-init c = filled_none _ _ _ _ (search rules)
-
-pub loop-t-preserved : goal.loop-t-preserved
-loop-t-preserved c =
-    filled_next _ _ _ c.loop-t.invariant c.loop-t-test.true
-    (λ p. record { home = c.stored_at.ensures p; priority = c.stored_at-in-loop-t.ensures p })
-
 pub returns : goal.returns
 unfolding entries_in
-returns c = filled_all _ _ _ c.loop-t.invariant c.loop-t-test.false
+returns c =
+    made_table _ _ (λ t. record { home = slice_index_or c.args.homes.now (2 * t) 0; priority = slice_index_or c.args.homes.now (2 * t + 1) 0 })
+    (record { home = 0; priority = 0 })
+    (λ i y q k. search rules)
+    _
+    _
+    c.from_fn.ensures.items
