@@ -1,9 +1,0 @@
--- Each turn leaves less to fill.
-use Rattle.std.proofs.Common.{◌≡◌, ◌-◌, ◌≤◌, length}
-use Rattle.regress.proofs.take.Given as goal
-
-abbrev pub invariant-loop-done : goal.invariant-loop-done
-invariant-loop-done g l = record { same_length : length l.buf ≡ length l.initial.buf; within : l.done ≤ length l.buf }
-
-abbrev pub decreases-loop-done : goal.decreases-loop-done
-decreases-loop-done g l = length l.initial.buf - l.done
