@@ -28,7 +28,6 @@ fn main(rt: HostRuntime) -> io::Result<()> {
     let mut text = [0u8; MAX_TEXT + 1];
     let mut out = [0u8; REPORT_ROOM];
     let n = read_full(rt.stdin(), &mut text);
-    let r = scenario::report(&text[..n], &mut out);
-    let m = r.length;
+    let m = scenario::report(&text[..n], &mut out).unwrap_or(0);
     rt.write_all(&out[..m])
 }

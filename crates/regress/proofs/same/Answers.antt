@@ -5,9 +5,7 @@ use Rattle.scenario.specs.Room.{within}
 use Rattle.regress.proofs.same.Goals as goal
 
 pub slice_bounds-out-end : goal.slice_bounds-out-end
-slice_bounds-out-end g c = let report = c.report-r in within _ _ report.ensures.0 report.ensures.1
+slice_bounds-out-end g c = rw c.unwrap_or-k.ensures (within c.report.ensures)
 
 pub slice_bounds-equal-end : goal.slice_bounds-equal-end
-slice_bounds-equal-end g c =
-    let report = c.report-r in
-    sym (length-take-le _ _ (within _ _ report.ensures.0 report.ensures.1))
+slice_bounds-equal-end g c = sym (length-take-le _ _ (rw c.unwrap_or-k.ensures (within c.report.ensures)))

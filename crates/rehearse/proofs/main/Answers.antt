@@ -5,9 +5,7 @@ use Rattle.scenario.specs.Room.{within}
 use Rattle.rehearse.proofs.main.Goals as goal
 
 pub slice_bounds-out-end : goal.slice_bounds-out-end
-slice_bounds-out-end c = let report = c.report-r in within _ _ report.ensures.0 report.ensures.1
+slice_bounds-out-end c = rw c.unwrap_or-m.ensures (within c.report.ensures)
 
 pub slice_bounds-write_all-end : goal.slice_bounds-write_all-end
-slice_bounds-write_all-end c =
-    let report = c.report-r in
-    sym (length-take-le _ _ (within _ _ report.ensures.0 report.ensures.1))
+slice_bounds-write_all-end c = sym (length-take-le _ _ (rw c.unwrap_or-m.ensures (within c.report.ensures)))
