@@ -2,6 +2,7 @@
 #![tactic(auto)]
 
 ghost use Rattle.std.specs.Prelude.{◌≡◌, length};
+ghost use Rattle.std.specs.Result.{result_unwrap_or};
 ghost use Rattle.protocol.specs.Run.{events_of, answers_after};
 ghost use Rattle.scenario.specs.Format.{read_into};
 ghost use Rattle.scenario.specs.Report.{report_of, reported, reported_in};
@@ -14,10 +15,9 @@ use scenario::reader::{entries_of, read, whole};
 // empty.
 #[unsafe(no_mangle)]
 pub extern "C" fn bench_report(text: &[u8], out: &mut [u8]) -> usize
-    ensures { (result ≡ (reported (report_of text.now) (length out.old)).length) × (out.new ≡ reported_in (report_of text.now) out.old) }
+    ensures { (result ≡ result_unwrap_or (reported (report_of text.now) (length out.old)) 0) × (out.new ≡ reported_in (report_of text.now) out.old) }
 {
-    let r = scenario::report(text, out);
-    r.length
+    scenario::report(text, out).unwrap_or(0)
 }
 
 // Reads a text into lent lists, as far as they have room: two numbers a transaction and seven an event. The number of the

@@ -3,5 +3,4 @@ pub mod Fronts
 pub mod Laws
 pub mod Rehearsed
 pub mod RoundTrip
-pub mod Shape
 pub mod Writing

@@ -1,10 +1,11 @@
 -- What the code of a rehearsal does at each turn is what the report of a text says.
-use Rattle.std.proofs.Common.{◌≡◌, ℕ, ◌+◌, ◌*◌, ◌/◌, ◌<◌, ◌≤◌, true, false, List, length, take, drop, ◌∙◌, arith, le-ltb, lt-ltb, ne_eqb}
+use Rattle.std.proofs.Common.{◌≡◌, ℕ, ◌+◌, ◌*◌, ◌/◌, ◌<◌, ◌≤◌, true, false, List, [], ◌++◌, length, take, drop, Ok, Err, refl, sym, ap, ◌∙◌, arith, le-ltb, lt-ltb, ne_eqb}
 use lib.Seq.{sets, sets-eq, take-append_seam}
 use Rattle.protocol.specs.State.{max_sites, max_txns, max_events}
 use Rattle.protocol.specs.Setup.{setup_of}
 use Rattle.protocol.specs.Range.{in_range}
 use Rattle.protocol.specs.Run.{events_of, state_after, answers_of, sent_by, run_answer, run, answers_after}
+use Rattle.protocol.specs.declared.Entry.{Entry}
 use Rattle.protocol.specs.declared.Event.{Event}
 use Rattle.protocol.specs.declared.Ran.{Ran}
 use Rattle.protocol.specs.declared.Started.{Started}
@@ -12,13 +13,14 @@ use Rattle.protocol.specs.declared.State.{State}
 use Rattle.laws.specs.Shape.{Shaped}
 use Rattle.laws.specs.Enabled.{run-done, answers_written}
 use Rattle.laws.specs.Ranged.{after_counts}
-use Rattle.laws.specs.Runs.{events-length, answers_length, run-goes}
+use Rattle.laws.specs.Runs.{events-length, answers_length, run-goes, setup_of_ranged}
 use Rattle.text.specs.Written.{bytes}
 use Rattle.scenario.specs.Format.{read_text, whole, entries_of}
-use Rattle.scenario.specs.Put.{Put, end_lines}
-use Rattle.scenario.specs.Report.{max_text, line_of, run_lines, outcome_of, read_report, report_of, reported, reported_in}
-use Rattle.scenario.specs.Room.{last_fits}
+use Rattle.scenario.specs.Put.{printed, end_lines}
+use Rattle.scenario.specs.Report.{max_text, line_of, run_lines, outcome_of, read_report, report_of, reported, reported_in, Reported}
+use Rattle.scenario.specs.Room.{last_fits, report_fits}
 use Rattle.scenario.specs.declared.Reading.{Reading}
+use Rattle.scenario.proofs.Writing.{printed-all}
 
 -- a run from a state in range whose answers have room for 1,024: what is returned, and what the answers then hold
 module _ (s : State) (numbers old : List ℕ) (h : Shaped s) (r : in_range s ≡ true) (few : length numbers ≤ 7 * max_events)
@@ -48,20 +50,29 @@ module _ (s : State) (numbers old : List ℕ) (h : Shaped s) (r : in_range s ≡
         rw (f, answers_written s events old goes, n) (take-append_seam (answers_of s events) (drop (length events) old)) in
         rw (first, ends, (after_counts s events).0)
 
--- ---- the outcome of what was read
+-- ---- the outcome of what was read: b is the setup of the entries es
 
-module _ (b : Started) (events : ℕ) (numbers : List ℕ) where
-  pub setup-refused : (b.answer ≡ 0 → ⊥) → line_of (bytes "setup=") b.answer ≡ outcome_of b events numbers
-  unfolding outcome_of
-  setup-refused n = rw ne_eqb
+module _ (m : Reading) (homes numbers : List ℕ) {es : List Entry} {b : Started} (d : es ≡ entries_of homes)
+    (e : b ≡ setup_of m.sites m.count es) where
+  -- what is to be printed
+  abbrev outcome : List ℕ
+  outcome = outcome_of (setup_of m.sites m.count (entries_of homes)) m.events numbers
 
-  pub too_many : b.answer ≡ 0 → max_events < events → line_of (bytes "setup=") 31 ≡ outcome_of b events numbers
+  pub setup-refused : (b.answer ≡ 0 → ⊥) → line_of (bytes "setup=") b.answer ≡ outcome
   unfolding outcome_of
-  too_many z h = rw (z, lt-ltb max_events events h)
+  setup-refused n = rw (← d, ← e, ne_eqb b.answer 0 n)
 
-  pub runs : b.answer ≡ 0 → events ≤ max_events → run_lines b.state (take (7 * events) numbers) ≡ outcome_of b events numbers
+  pub too_many : b.answer ≡ 0 → max_events < m.events → line_of (bytes "setup=") 31 ≡ outcome
   unfolding outcome_of
-  runs z h = rw (z, le-ltb max_events events h)
+  too_many z h = rw (← d, ← e, z, lt-ltb max_events m.events h)
+
+  pub runs : b.answer ≡ 0 → m.events ≤ max_events → run_lines b.state (take (7 * m.events) numbers) ≡ outcome
+  unfolding outcome_of
+  runs z h = rw (← d, ← e, z, le-ltb max_events m.events h)
+
+  -- the state of a setup that was done
+  pub begun : b.answer ≡ 0 → (Shaped b.state) × (in_range b.state ≡ true)
+  begun z = rw e (setup_of_ranged m.sites m.count es (rw e at z))
 
 -- ---- the report of a text
 
@@ -81,24 +92,24 @@ module _ (t : List ℕ) where
     unfolding report_of read_report
     read_whole homes numbers f g w = rw (le-ltb max_text (length t) h, ← e, ← f, ← g, w)
 
--- ---- a report in bytes of its own, and then in lent ones
+-- ---- the printed report d in the lent bytes
 
-module _ (l space o : List ℕ) (n : ℕ) (p : Put space 0 l o n) where
-  all : n ≡ length l
-  all = omega (arith, p.place)
+module _ (t old d : List ℕ) (e : d ≡ printed [] (report_of t)) where
+  whole_report : d ≡ report_of t
+  whole_report = e ∙ printed-all (report_of t) (report_fits t)
 
-  -- what was written at the start is the report
-  pub first-bytes : length l ≤ length space → take n o ≡ l
-  first-bytes h =
-      rw (p.stored, sets-eq l space 0 (omega arith), all) (take-append_seam l (drop (0 + length l) space))
+  pub short : length old < length d → Reported (report_of t) old (Err (record { })) old
+  unfolding reported reported_in
+  short h = rw (← whole_report) (let b = lt-ltb (length old) (length d) h in record { result = rw b refl; bytes = rw b refl })
 
-  module _ (old : List ℕ) where
-    pub short : length old < n
-        → (record { answer = 34; length = 0 } ≡ reported l (length old)) × (old ≡ reported_in l old)
-    unfolding reported reported_in
-    short h = let g = lt-ltb (length old) (length l) (omega (arith, all)) in (rw g, rw g)
-
-    pub copied : n ≤ length old
-        → (record { answer = 0; length = n } ≡ reported l (length old)) × (sets old 0 l ≡ reported_in l old)
-    unfolding reported reported_in
-    copied h = let g = le-ltb (length old) (length l) (omega (arith, all)) in (rw (g, all), rw g)
+  pub copied : {c : List ℕ} → c ≡ d → length d ≤ length old
+      → Reported (report_of t) old (Ok (length d)) (c ++ drop (length d) old)
+  unfolding reported reported_in
+  copied f h =
+      let b = le-ltb (length old) (length d) h in
+      let z : 0 + length d ≡ length d = omega arith in
+      rw (← whole_report, f)
+      record {
+        result = rw b refl;
+        bytes = rw b (sym (sets-eq d old 0 (omega arith) ∙ ap (λ (k : ℕ). d ++ drop k old) z));
+      }

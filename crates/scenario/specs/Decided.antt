@@ -1,19 +1,20 @@
 -- What the promises decide: two results of a public function that both satisfy its promise are equal, whatever the input.
-use Rattle.std.specs.Prelude.{◌≡◌, ℕ, Bool, List, length}
+use Rattle.std.specs.Prelude.{◌≡◌, ℕ, Bool, List, Result}
 use Rattle.protocol.specs.declared.Entry.{Entry}
 use Rattle.rules.specs.Decided.{decided}
 use Rattle.scenario.specs.Format.{read_into, whole, entries_of}
-use Rattle.scenario.specs.Report.{report_of, reported, reported_in}
+use Rattle.scenario.specs.Report.{report_of, Reported}
 use Rattle.scenario.specs.declared.Reading.{Reading}
-use Rattle.scenario.specs.declared.Reported.{Reported}
+use Rattle.scenario.specs.declared.ShortBuffer.{ShortBuffer}
 
 -- a report's result, and what the lent bytes hold
-pub report_decided : (t old : List ℕ) (x y : Reported)
-    → x ≡ reported (report_of t) (length old) → y ≡ reported (report_of t) (length old) → x ≡ y
-report_decided t old x y = decided
+pub report_decided : (t old : List ℕ) (x y : Result ℕ ShortBuffer) (a b : List ℕ)
+    → Reported (report_of t) old x a → Reported (report_of t) old y b → x ≡ y
+report_decided t old x y a b p q = decided p.result q.result
 
-pub bytes_decided : (t old x y : List ℕ) → x ≡ reported_in (report_of t) old → y ≡ reported_in (report_of t) old → x ≡ y
-bytes_decided t old x y = decided
+pub bytes_decided : (t old : List ℕ) (x y : Result ℕ ShortBuffer) (a b : List ℕ)
+    → Reported (report_of t) old x a → Reported (report_of t) old y b → a ≡ b
+bytes_decided t old x y a b p q = decided p.bytes q.bytes
 
 -- what reading gives, and what the two lent lists hold
 pub read_decided : (hs ns t : List ℕ) (x y : Reading)

@@ -1,17 +1,15 @@
--- What it is to write bytes into others, the lines of one site, and the whole report of a run.
-use Rattle.std.specs.Prelude.{◌≡◌, ℕ, ◌+◌, List, ◌++◌, length, take}
-use Rattle.std.proofs.lemmas.List.Edits.{sets}
+-- What the printer holds after it was given more, the lines of one site, and the whole report of a run.
+use Rattle.std.specs.Prelude.{ℕ, ◌-◌, List, ◌++◌, length, take}
 use Rattle.protocol.specs.State.{log_of}
 use Rattle.protocol.specs.declared.Row.{Row}
 use Rattle.protocol.specs.declared.Place.{Place}
 use Rattle.protocol.specs.declared.State.{State}
 use Rattle.text.specs.Written.{bytes}
-use Rattle.scenario.specs.Report.{line_of, list_of, answer_lines, site_lines}
+use Rattle.scenario.specs.Report.{report_room, line_of, list_of, answer_lines, site_lines}
 
--- o is l with the bytes d stored from place i on, and j is the place after them
-pub record Put (l : List ℕ) (i : ℕ) (d o : List ℕ) (j : ℕ) : Type 0 where
-  pub place : j ≡ i + length d
-  pub stored : o ≡ sets l i d
+-- what has been printed and d after it, as far as there is room
+unfoldable pub printed : List ℕ → List ℕ → List ℕ
+printed l d = l ++ take (report_room - length l) d
 
 -- what one site adds to the report: the statuses of its first `count` transactions, and its log
 unfoldable pub site_of : ℕ → Row → Place → List ℕ

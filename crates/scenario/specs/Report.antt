@@ -1,5 +1,5 @@
 -- 01, "Scenario and report": what is printed for a text.
-use Rattle.std.specs.Prelude.{ℕ, zero, suc, ◌*◌, cond, List, [], ◌∷◌, ◌++◌, length, take, ◌==◌, nat_lt}
+use Rattle.std.specs.Prelude.{◌≡◌, ℕ, zero, suc, ◌*◌, cond, List, [], ◌∷◌, ◌++◌, length, take, ◌==◌, nat_lt, Result, Ok, Err}
 use Rattle.std.proofs.lemmas.List.Edits.{sets}
 use Rattle.protocol.specs.State.{max_events, row_at, place_at, log_of}
 use Rattle.protocol.specs.Setup.{setup_of}
@@ -9,7 +9,7 @@ use Rattle.protocol.specs.declared.Started.{Started}
 use Rattle.text.specs.Written.{bytes}
 use Rattle.text.specs.Decimal.{digits}
 use Rattle.scenario.specs.Format.{Read, read_text, whole, entries_of}
-use Rattle.scenario.specs.declared.Reported.{Reported}
+use Rattle.scenario.specs.declared.ShortBuffer.{ShortBuffer}
 
 -- "up to 65,536 bytes"
 abbrev pub max_text : ℕ
@@ -73,11 +73,20 @@ read_report r =
 unfoldable pub report_of : List ℕ → List ℕ
 report_of t = cond (nat_lt max_text (length t)) (line_of (bytes "fault=") 0) (read_report (read_text t))
 
--- a report l for which there is room for so many bytes: its length, or 34 where the room is too little. 01 leaves the
--- number open; it is that of a text for which a lent buffer is too short.
-unfoldable pub reported : List ℕ → ℕ → Reported
-reported l room = cond (nat_lt room (length l)) (record { answer = 34; length = 0 }) (record { answer = 0; length = length l })
+-- 01 leaves the number of a report for which there is too little room open; it is that of a text for which a lent buffer
+-- is too short
+abbrev pub short_buffer : ℕ
+short_buffer = 34
+
+-- a report l for which there is room for so many bytes: its length, or a refusal where the room is too little
+unfoldable pub reported : List ℕ → ℕ → Result ℕ ShortBuffer
+reported l room = cond (nat_lt room (length l)) (Err (record { })) (Ok (length l))
 
 -- what the lent bytes then hold, where they held `old`
 unfoldable pub reported_in : List ℕ → List ℕ → List ℕ
 reported_in l old = cond (nat_lt (length old) (length l)) old (sets old 0 l)
+
+-- what is returned and what the lent bytes then hold, where they held `old`
+pub record Reported (l old : List ℕ) (r : Result ℕ ShortBuffer) (new : List ℕ) : Type 0 where
+  pub result : r ≡ reported l (length old)
+  pub bytes : new ≡ reported_in l old

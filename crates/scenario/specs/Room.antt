@@ -1,5 +1,6 @@
 -- How long a report can be: report_room bytes suffice for every text.
-use Rattle.std.specs.Prelude.{◌≡◌, ℕ, zero, suc, ◌+◌, ◌-◌, ◌*◌, ◌<◌, ◌≤◌, true, cond, List, [], ◌∷◌, ◌++◌, length, take, ◌==◌, nat_lt, refl}
+use Rattle.std.specs.Prelude.{◌≡◌, ℕ, zero, suc, ◌+◌, ◌-◌, ◌*◌, ◌<◌, ◌≤◌, true, cond, List, [], ◌∷◌, ◌++◌, length, take, ◌==◌, nat_lt, refl, Result}
+use Rattle.std.specs.Result.{result_unwrap_or}
 use Rattle.std.proofs.Common.{sym, ap, ◌∙◌, append_assoc, append-nil, length-append, ltb-false, eqb-true}
 use native.Mathlib.Omega.{arith}
 use Rattle.std.proofs.Math.ListN.{length-take}
@@ -23,8 +24,8 @@ use Rattle.laws.specs.Ranged.{after_ranged, after_counts}
 use Rattle.laws.specs.Runs.{events-length, answers_length, setup_of_ranged}
 use Rattle.scenario.specs.Format.{read_text, whole, entries_of}
 use Rattle.scenario.specs.Put.{site_of}
-use Rattle.scenario.specs.Report.{max_text, report_room, line_of, others_of, commas_of, list_of, answer_lines, site_lines, run_lines, outcome_of, read_report, report_of, reported, reported_in}
-use Rattle.scenario.specs.declared.Reported.{Reported}
+use Rattle.scenario.specs.Report.{max_text, report_room, line_of, others_of, commas_of, list_of, answer_lines, site_lines, run_lines, outcome_of, read_report, report_of, reported, reported_in, Reported}
+use Rattle.scenario.specs.declared.ShortBuffer.{ShortBuffer}
 
 -- ---- a line
 
@@ -271,11 +272,11 @@ report_fits t =
     (λ w. outcome_fits r.reading.sites r.reading.count (entries_of r.homes) r.reading.events r.numbers)
     (λ w. fault_fits r.reading.line))
 
--- what is returned is a length inside the lent bytes, which stay as many
-pub within : (l old : List ℕ) {o : List ℕ} {r : Reported} → r ≡ reported l (length old) → o ≡ reported_in l old → r.length ≤ length o
+-- what is returned is a length inside the lent bytes, which stay as many; a refusal stands for 0
+pub within : {l old o : List ℕ} {r : Result ℕ ShortBuffer} → Reported l old r o → result_unwrap_or r 0 ≤ length o
 unfolding reported reported_in
-within l old {o} {r} e f = go (test (nat_lt (length old) (length l)))
+within {l} {old} {o} {r} p = go (test (nat_lt (length old) (length l)))
   where
-    go : Test (nat_lt (length old) (length l)) → r.length ≤ length o
-    go (yes_so b) = rw (e, b) (omega arith)
-    go (not_so b) = rw (e, f, b) (omega (arith, ltb-false (length old) (length l) b, length-sets old 0 l))
+    go : Test (nat_lt (length old) (length l)) → result_unwrap_or r 0 ≤ length o
+    go (yes_so b) = rw (p.result, b) (omega arith)
+    go (not_so b) = rw (p.result, p.bytes, b) (omega (arith, ltb-false (length old) (length l) b, length-sets old 0 l))

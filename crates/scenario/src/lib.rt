@@ -1,12 +1,11 @@
 // The scenario: the text that a user writes and the report that comes back.
 #![tactic(auto)]
 
-ghost use Rattle.std.specs.Prelude.{◌≡◌, length};
-ghost use Rattle.scenario.specs.Report.{report_of, reported, reported_in};
+ghost use Rattle.std.specs.Prelude.{◌≡◌};
+ghost use Rattle.scenario.specs.Report.{short_buffer, report_of, Reported};
 
-use crate::printer::put_bytes;
-use crate::rehearsal::put_report;
-use protocol::ACCEPTED;
+use crate::printer::Printer;
+use crate::rehearsal::print_report;
 
 // Which line is wanted next: the number of sites, the number of transactions, a transaction's home, its priority, the
 // number of events, an event, nothing more; or the last line was not of the form.
@@ -34,15 +33,18 @@ pub struct Reading {
     pub events: u32,
 }
 
-// What became of a report: 0 and its length, or the number of its refusal and 0.
-#[derive(Clone, Copy)]
-pub struct Reported {
-    pub answer: u32,
-    pub length: usize,
-}
-
 // The lent bytes are too few for the report.
-pub const SHORT_BUFFER: u32 = 34;
+#[derive(Clone, Copy, Debug, PartialEq, Eq)]
+pub struct ShortBuffer;
+
+// Its number.
+impl From<ShortBuffer> for u32 {
+    ghost from_gives = { λ e n. n ≡ short_buffer };
+
+    fn from(_: ShortBuffer) -> u32 {
+        34
+    }
+}
 
 // So many bytes are enough for every report.
 pub const REPORT_ROOM: usize = 24576;
@@ -60,36 +62,16 @@ pub(crate) mod printer;
 pub mod reader;
 pub(crate) mod rehearsal;
 
-// The report of a text by way of bytes of its own, as the lent ones may be too few.
-fn report_by_way(text: &[u8], out: &mut [u8]) -> Reported
-    ensures { (result ≡ reported (report_of text.now) (length out.old)) × (out.new ≡ reported_in (report_of text.now) out.old) }
+// The report of a text into lent bytes, whose others stay, and its length. Where they are too few nothing is written.
+pub fn report(text: &[u8], out: &mut [u8]) -> Result<usize, ShortBuffer>
+    ensures { Reported (report_of text.now) out.old result out.new }
 {
-    let mut space = [0u8; REPORT_ROOM];
-    let n = put_report(&mut space, text);
-    if out.len() < n {
-        return Reported {
-            answer: SHORT_BUFFER,
-            length: 0,
-        };
+    let mut printer = Printer::new();
+    print_report(&mut printer, text);
+    let report = printer.text();
+    if out.len() < report.len() {
+        return Err(ShortBuffer);
     }
-    put_bytes(out, 0, &space[..n]);
-    Reported {
-        answer: ACCEPTED,
-        length: n,
-    }
-}
-
-// The report of a text into lent bytes, whose others stay. Where they are too few nothing is written. Lent bytes that
-// every report fits are written at once.
-pub fn report(text: &[u8], out: &mut [u8]) -> Reported
-    ensures { (result ≡ reported (report_of text.now) (length out.old)) × (out.new ≡ reported_in (report_of text.now) out.old) }
-{
-    if out.len() < REPORT_ROOM {
-        return report_by_way(text, out);
-    }
-    let n = put_report(out, text);
-    Reported {
-        answer: ACCEPTED,
-        length: n,
-    }
+    out[..report.len()].copy_from_slice(report);
+    Ok(report.len())
 }

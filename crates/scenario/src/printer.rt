@@ -1,148 +1,133 @@
-// The printer: the lines of a report, written into lent bytes. Each function writes its text from a place on and answers the place after it; its
-// caller has seen to the room.
-ghost use Rattle.std.specs.Prelude.{◌≡◌, ◌+◌, ◌≤◌, min, length, take};
-ghost use Rattle.protocol.specs.State.{max_sites, max_txns, max_events};
+// The printer: the lines of a report, one after the other. What has no room is left out, and no report is so long.
+ghost use Rattle.std.specs.Prelude.{◌≡◌, ℕ, ◌≤◌, List, [], ◌∷◌, ◌++◌, length, take};
+ghost use Rattle.protocol.specs.State.{max_sites};
 ghost use Rattle.text.specs.Decimal.{digits};
-ghost use Rattle.scenario.specs.Put.{Put, site_of, end_lines};
-ghost use Rattle.scenario.specs.Report.{report_room, line_of, others_of, commas_of, list_of, answer_lines, site_lines};
+ghost use Rattle.scenario.specs.Put.{printed, site_of, end_lines};
+ghost use Rattle.scenario.specs.Report.{report_room, line_of, commas_of, list_of, answer_lines, site_lines};
 
+use crate::REPORT_ROOM;
+use itoa::Buffer;
 use protocol::{Place, Row, State};
+use std::marker::Model;
 
-// The decimal of n.
-fn put_number(out: &mut [u8], at: usize, n: u32) -> usize
-    requires { at + length (digits n) ≤ length out.old }
-    ensures { Put out.old at (digits n) out.new result }
-{
-    if n < 10 {
-        out[at] = 48 + n as u8;
-        at + 1
-    } else {
-        let e = put_number(out, at, n / 10);
-        out[e] = 48 + (n % 10) as u8;
-        e + 1
+// What has been printed. A clause sees its bytes.
+#[derive(Drop)]
+pub(crate) struct Printer {
+    bytes: [u8; REPORT_ROOM],
+    length: usize,
+}
+
+impl Model for Printer {
+    ghost Value = { List ℕ };
+
+    ghost view = { λ p. take p.length p.bytes };
+
+    ghost invariant = { λ p. p.length ≤ report_room };
+}
+
+impl Printer {
+    // Nothing is printed yet.
+    pub(crate) fn new() -> Self
+        ensures { result ≡ [] }
+    {
+        Printer {
+            bytes: [0; REPORT_ROOM],
+            length: 0,
+        }
     }
-}
 
-// The bytes of s.
-pub(crate) fn put_bytes(out: &mut [u8], at: usize, s: &[u8]) -> usize
-    requires { at + length s.now ≤ length out.old }
-    ensures { Put out.old at s.now out.new result }
-{
-    let mut i: usize = 0;
-    while i < s.len() {
-        out[at + i] = s[i];
-        i += 1;
+    // All that was printed.
+    pub(crate) fn text(&self) -> &[u8]
+        ensures { result.now ≡ self.now }
+    {
+        &self.bytes[..self.length]
     }
-    at + i
-}
 
-// A line that is a key and a decimal.
-pub(crate) fn put_line(out: &mut [u8], at: usize, key: &[u8], n: u32) -> usize
-    requires { at + length (line_of key.now n) ≤ length out.old }
-    ensures { Put out.old at (line_of key.now n) out.new result }
-{
-    let a = put_bytes(out, at, key);
-    let b = put_number(out, a, n);
-    out[b] = 10;
-    b + 1
-}
-
-// A line for each answer.
-fn put_answers(out: &mut [u8], at: usize, l: &[u8]) -> usize
-    requires { at + length (answer_lines l.now) ≤ length out.old }
-    ensures { Put out.old at (answer_lines l.now) out.new result }
-{
-    let mut i: usize = 0;
-    let mut e = at;
-    while i < l.len() {
-        e = put_line(out, e, b"answer=", l[i] as u32);
-        i += 1;
+    // The bytes of s.
+    fn bytes(&mut self, s: &[u8])
+        ensures { self.new ≡ printed self.old s.now }
+    {
+        let n = s.len().min(REPORT_ROOM - self.length);
+        self.bytes[self.length..self.length + n].copy_from_slice(&s[..n]);
+        self.length += n;
     }
-    e
-}
 
-// Decimals, each with a comma before it.
-fn put_others(out: &mut [u8], at: usize, l: &[u8]) -> usize
-    requires { at + length (others_of l.now) ≤ length out.old }
-    ensures { Put out.old at (others_of l.now) out.new result }
-{
-    let mut i: usize = 0;
-    let mut e = at;
-    while i < l.len() {
-        out[e] = 44;
-        e = put_number(out, e + 1, l[i] as u32);
-        i += 1;
+    // The decimal of n.
+    fn number(&mut self, n: u32)
+        ensures { self.new ≡ printed self.old (digits n) }
+    {
+        let mut text = Buffer::new();
+        self.bytes(text.format(n).as_bytes());
     }
-    e
-}
 
-// Decimals with commas between them.
-fn put_commas(out: &mut [u8], at: usize, l: &[u8]) -> usize
-    requires { at + length (commas_of l.now) ≤ length out.old }
-    ensures { Put out.old at (commas_of l.now) out.new result }
-{
-    if l.len() == 0 {
-        at
-    } else {
-        let e = put_number(out, at, l[0] as u32);
-        put_others(out, e, &l[1..])
+    // A line that is a key and a decimal.
+    pub(crate) fn line(&mut self, key: &[u8], n: u32)
+        ensures { self.new ≡ printed self.old (line_of key.now n) }
+    {
+        self.bytes(key);
+        self.number(n);
+        self.bytes(b"\n");
     }
-}
 
-// How many the first n of 32 elements are.
-fn first_of(n: u32) -> usize
-    ensures { result ≡ min n 32 }
-{
-    if n < 32 { n as usize } else { 32 }
-}
-
-// A line that is a key and the first n elements of l.
-fn put_list(out: &mut [u8], at: usize, key: &[u8], l: [u8; 32], n: u32) -> usize
-    requires { at + length (list_of key.now (take n l)) ≤ length out.old }
-    ensures { Put out.old at (list_of key.now (take n l)) out.new result }
-{
-    let m = first_of(n);
-    let a = put_bytes(out, at, key);
-    let b = put_commas(out, a, &l[..m]);
-    out[b] = 10;
-    b + 1
-}
-
-// The two lines of a site: the statuses of its first `count` transactions and its log.
-fn put_site(out: &mut [u8], at: usize, count: u32, row: Row, place: Place) -> usize
-    requires { at + length (site_of count row place) ≤ length out.old }
-    ensures { Put out.old at (site_of count row place) out.new result }
-{
-    let status = row.status;
-    let a = put_list(out, at, b"status=", status, count);
-    let entries = place.log.entries;
-    put_list(out, a, b"log=", entries, place.log.length)
-}
-
-// The lines of all sites.
-fn put_sites(out: &mut [u8], at: usize, s: State) -> usize
-    requires { (s.sites ≤ max_sites) × (at + length (site_lines s.sites 0 s) ≤ length out.old) }
-    ensures { Put out.old at (site_lines s.sites 0 s) out.new result }
-{
-    let n = s.sites as usize;
-    let mut i: usize = 0;
-    let mut e = at;
-    while i < n {
-        let row = s.rows[i];
-        let place = s.places[i];
-        e = put_site(out, e, s.count, row, place);
-        i += 1;
+    // A line for each answer.
+    fn answers(&mut self, l: &[u8])
+        ensures { self.new ≡ printed self.old (answer_lines l.now) }
+    {
+        for a in l {
+            self.line(b"answer=", u32::from(*a));
+        }
     }
-    e
-}
 
-// What a run reports: the lines of its answers, at most 1,024, and of the sites of the state s that it ends in, and how
-// many messages were sent.
-pub(crate) fn put_run(out: &mut [u8], at: usize, l: &[u8], s: State, sent: u32) -> usize
-    requires { (length l.now ≤ max_events) × (s.sites ≤ max_sites) × (s.count ≤ max_txns) × (at + report_room ≤ length out.old) }
-    ensures { Put out.old at (end_lines l.now s sent) out.new result }
-{
-    let a = put_answers(out, at, l);
-    let b = put_sites(out, a, s);
-    put_line(out, b, b"messages=", sent)
+    // Decimals with commas between them.
+    fn commas(&mut self, l: &[u8])
+        ensures { self.new ≡ printed self.old (commas_of l.now) }
+    {
+        let Some((first, others)) = l.split_first() else {
+            return;
+        };
+        self.number(u32::from(*first));
+        for n in others {
+            self.bytes(b",");
+            self.number(u32::from(*n));
+        }
+    }
+
+    // A line that is a key and the first n elements of l.
+    fn list(&mut self, key: &[u8], l: &[u8], n: u32)
+        ensures { self.new ≡ printed self.old (list_of key.now (take n l.now)) }
+    {
+        self.bytes(key);
+        self.commas(&l[..(n as usize).min(l.len())]);
+        self.bytes(b"\n");
+    }
+
+    // The two lines of a site: the statuses of its first `count` transactions and its log.
+    fn site(&mut self, count: u32, row: &Row, place: &Place)
+        ensures { self.new ≡ printed self.old (site_of count row.now place.now) }
+    {
+        self.list(b"status=", &row.status, count);
+        self.list(b"log=", &place.log.entries, place.log.length);
+    }
+
+    // The lines of all sites.
+    fn sites(&mut self, s: &State)
+        requires { s.now.sites ≤ max_sites }
+        ensures { self.new ≡ printed self.old (site_lines s.now.sites 0 s.now) }
+    {
+        let n = s.sites as usize;
+        for (row, place) in s.rows[..n].iter().zip(&s.places[..n]) {
+            self.site(s.count, row, place);
+        }
+    }
+
+    // What a run reports: the lines of its answers and of the sites of the state s that it ends in, and how many messages
+    // were sent.
+    pub(crate) fn run(&mut self, l: &[u8], s: &State, sent: u32)
+        requires { s.now.sites ≤ max_sites }
+        ensures { self.new ≡ printed self.old (end_lines l.now s.now sent) }
+    {
+        self.answers(l);
+        self.sites(s);
+        self.line(b"messages=", sent);
+    }
 }

@@ -1,13 +1,16 @@
--- Every report fits where there is the room that always suffices.
-use Rattle.std.proofs.Common.{◌≤◌, length, ◌∙◌, arith}
-use Rattle.scenario.proofs.Rehearsed.{copied}
-use Rattle.scenario.specs.Room.{report_fits}
+-- The whole report is printed, and copied where it has the room.
+use Rattle.std.proofs.Common.{ap, ◌∙◌}
+use Rattle.scenario.proofs.Rehearsed.{short, copied}
+use Rattle.scenario.specs.Put.{printed}
+use Rattle.scenario.specs.Report.{report_of}
 use Rattle.scenario.proofs.report.Goals as goal
+
+pub returns-then-out-report : goal.returns-then-out-report
+returns-then-out-report c =
+    let e = c.text-report.ensures ∙ rw (← c.new-printer.ensures) c.print_report.ensures in
+    short c.args.text.now c.args.out.now _ e c.if-out-report.true
 
 pub returns : goal.returns
 returns c =
-    let put_report = c.put_report-n in
-    let fits : put_report.result ≤ length c.args.out.now =
-    omega (arith, put_report.ensures.place, report_fits c.args.text.now, c.if-out-lt-REPORT_ROOM.false) in
-    let answered = copied _ _ _ _ put_report.ensures c.args.out.now fits in
-    (answered.0, put_report.ensures.stored ∙ answered.1)
+    let e = c.text-report.ensures ∙ rw (← c.new-printer.ensures) c.print_report.ensures in
+    copied c.args.text.now c.args.out.now _ e c.copy_from_slice.ensures.after c.if-out-report.false
