@@ -8,7 +8,6 @@ ghost use Rattle.scenario.specs.Format.{read_into};
 ghost use Rattle.scenario.specs.Report.{report_of, reported, reported_in};
 ghost use Rattle.exports.specs.Exported.{fault_line, begun_with, sent_in};
 
-use protocol::ACCEPTED;
 use scenario::reader::{entries_of, read, whole};
 
 // The report of a text into lent bytes: its length, or 0 where they are too few and stay as they came. No report is
@@ -37,11 +36,7 @@ pub extern "C" fn bench_run(sites: u32, table: &[u32], events: &[u32], answers: 
     ensures { (result ≡ sent_in (begun_with sites table.now) (events_of events.now) (length answers.old)) × (answers.new ≡ answers_after (begun_with sites table.now) (events_of events.now) answers.old) }
 {
     let b = rules::setup_of(sites, table.len() / 2, entries_of(table));
-    let s = b.state;
-    let r = rules::run(s, events, answers);
-    if r.answer == ACCEPTED {
-        r.sent
-    } else {
-        4294967295
-    }
+    rules::run(b.state, events, answers)
+        .outcome
+        .unwrap_or(u32::MAX)
 }

@@ -1,13 +1,15 @@
 // The printer: the lines of a report, one after the other. What has no room is left out, and no report is so long.
 ghost use Rattle.std.specs.Prelude.{◌≡◌, ℕ, ◌≤◌, List, [], ◌∷◌, ◌++◌, length, take};
 ghost use Rattle.protocol.specs.State.{max_sites};
+ghost use Rattle.protocol.specs.Refusals.{number_of};
 ghost use Rattle.text.specs.Decimal.{digits};
+ghost use Rattle.text.specs.Written.{bytes};
 ghost use Rattle.scenario.specs.Put.{printed, site_of, end_lines};
 ghost use Rattle.scenario.specs.Report.{report_room, line_of, commas_of, list_of, answer_lines, site_lines};
 
 use crate::REPORT_ROOM;
 use itoa::Buffer;
-use protocol::{Place, Row, State};
+use protocol::{Place, Refusal, Row, State};
 use std::marker::Model;
 
 // What has been printed. A clause sees its bytes.
@@ -67,6 +69,13 @@ impl Printer {
         self.bytes(key);
         self.number(n);
         self.bytes(b"\n");
+    }
+
+    // The line of a refused setup.
+    pub(crate) fn refused_setup(&mut self, refusal: Refusal)
+        ensures { self.new ≡ printed self.old (line_of (bytes "setup=") (number_of refusal)) }
+    {
+        self.line(b"setup=", u32::from(u8::from(refusal)));
     }
 
     // A line for each answer.

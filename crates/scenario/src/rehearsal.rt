@@ -11,7 +11,7 @@ ghost use Rattle.scenario.specs.Report.{run_lines, outcome_of, report_of};
 use crate::printer::Printer;
 use crate::reader::{entries_of, read, whole};
 use crate::{HOMES, MAX_TEXT, NUMBERS, Reading};
-use protocol::{ACCEPTED, State, TOO_MANY_EVENTS};
+use protocol::{Refusal, State};
 
 // The most events that are run.
 const MAX_EVENTS: u32 = 1024;
@@ -24,7 +24,7 @@ fn print_run(p: &mut Printer, s: State, numbers: &[u32])
     let n = numbers.len() / 7;
     let mut answers = [0u8; MAX_EVENTS as usize];
     let r = rules::run(s, numbers, &mut answers);
-    p.run(&answers[..n], &r.state, r.sent);
+    p.run(&answers[..n], &r.state, r.outcome.unwrap_or(0));
 }
 
 // The report of a text of the form: a refused setup, too many events, or what its run reports.
@@ -32,12 +32,10 @@ fn print_outcome(p: &mut Printer, m: Reading, homes: &[u32; HOMES], numbers: &[u
     ensures { p.new ≡ printed p.old (outcome_of (setup_of m.sites m.count (entries_of homes.now)) m.events numbers.now) }
 {
     let b = rules::setup_of(m.sites, m.count as usize, entries_of(homes));
-    if b.answer != ACCEPTED {
-        p.line(b"setup=", b.answer);
-    } else if MAX_EVENTS < m.events {
-        p.line(b"setup=", TOO_MANY_EVENTS);
-    } else {
-        print_run(p, b.state, &numbers[..7 * m.events as usize]);
+    match b.outcome {
+        Err(refusal) => p.refused_setup(refusal),
+        Ok(()) if MAX_EVENTS < m.events => p.refused_setup(Refusal::TooManyEvents),
+        Ok(()) => print_run(p, b.state, &numbers[..7 * m.events as usize]),
     }
 }
 

@@ -25,7 +25,6 @@ pub fn report<'a>(text: &[u8], out: &'a mut [u8; REPORT_ROOM]) -> &'a [u8]
     ensures { result.now ≡ report_of text.now }
 {
     let out: &mut [u8] = out;
-    let r = scenario::report(text, out);
-    let n = r.length;
+    let n = scenario::report(text, out).unwrap_or(0);
     &out[..n]
 }
