@@ -54,6 +54,16 @@ impl Printer {
         self.length += n;
     }
 
+    // One byte.
+    fn byte(&mut self, b: u8)
+        ensures { self.new ≡ printed self.old (b ∷ []) }
+    {
+        if self.length < REPORT_ROOM {
+            self.bytes[self.length] = b;
+            self.length += 1;
+        }
+    }
+
     // The decimal of n.
     fn number(&mut self, n: u32)
         ensures { self.new ≡ printed self.old (digits n) }
@@ -68,7 +78,7 @@ impl Printer {
     {
         self.bytes(key);
         self.number(n);
-        self.bytes(b"\n");
+        self.byte(b'\n');
     }
 
     // The line of a refused setup.
@@ -96,7 +106,7 @@ impl Printer {
         };
         self.number(u32::from(*first));
         for n in others {
-            self.bytes(b",");
+            self.byte(b',');
             self.number(u32::from(*n));
         }
     }
@@ -107,7 +117,7 @@ impl Printer {
     {
         self.bytes(key);
         self.commas(&l[..(n as usize).min(l.len())]);
-        self.bytes(b"\n");
+        self.byte(b'\n');
     }
 
     // The two lines of a site: the statuses of its first `count` transactions and its log.

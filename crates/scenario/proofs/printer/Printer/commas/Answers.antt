@@ -12,7 +12,7 @@ returns-in_default c = rw (nil_from_length c.args.l.now c.in_default.ensures.cas
 pub loop-n-preserved : goal.loop-n-preserved
 loop-n-preserved c =
     rows_next other_rows c.loop-n.self _ _ c.in-Some.others.now c.loop-n.n-index _ c.from-in-loop-n.ensures
-    (rw (c.number-in-loop-n.ensures, c.bytes.ensures) (printed-both _ _ _))
+    (rw (c.number-in-loop-n.ensures, c.byte.ensures) (printed-both _ _ _))
     c.loop-n.invariant
     (omega arith)
 
