@@ -81,6 +81,7 @@ pub fn setup_of(sites: u32, n: usize, entries: [Entry; 32]) -> Answered<()>
 }
 
 // What the event returns: how many messages it sent, or its refusal, and the state after it.
+#[tactic(auto, using(laws::specs::Enabled::out_step))]
 pub fn step(s: State, e: Event) -> Answered<u32>
     ensures { stepped result ≡ step s e }
 {
@@ -94,6 +95,7 @@ pub fn step(s: State, e: Event) -> Answered<u32>
 }
 
 // Why a run of n events with room for so many answers is refused.
+#[tactic(auto, unfolding(protocol::specs::Check::first_of))]
 fn run_refusal(n: usize, room: usize, s: State) -> Result<(), Refusal>
     ensures { answer_of result ≡ run_refusal n room s }
 {
