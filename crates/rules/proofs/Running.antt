@@ -102,7 +102,7 @@ module _ (s : State) (es : List Event) (old : List ℕ) where
 
 -- a run that is not refused
 pub run_fine : (n room : ℕ) (s : State) → run_refusal n room s ≡ 0 → (in_range s ≡ true) × (n ≤ max_events) × (n ≤ room)
-unfolding run_refusal first_of
+unfolding first_of
 run_fine n room s h = go (in_range s) (test (nat_lt max_events n)) (test (nat_lt room n)) h
   where
     go : (b : Bool) → Test (nat_lt max_events n) → Test (nat_lt room n)

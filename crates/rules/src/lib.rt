@@ -25,13 +25,12 @@ pub(crate) mod slot;
 pub(crate) mod stepping;
 pub(crate) mod table;
 
-use std::array;
-
 use crate::answer::demand;
 use crate::copied::{blank, judged, with_entry};
 use crate::course::{performed, taken};
 use crate::range::in_range;
 use protocol::{Answered, Entry, Event, Message, Place, Refusal, Row, Scan, State, Txn};
+use std::array;
 
 // What an event reads of the state and can change there, but for the channels of other sites: the statuses at its site, what
 // else belongs to the site, and its transaction.
@@ -66,7 +65,11 @@ pub fn setup(sites: u32, table: &[Entry]) -> Answered<()>
     ensures { started result ≡ setup sites table.now }
 {
     let empty = blank();
-    let txns = array::from_fn(|t| if t < table.len() { with_entry(empty.txns[t], table[t]) } else { empty.txns[t] });
+    let txns = array::from_fn(|t| if t < table.len() {
+        with_entry(empty.txns[t], table[t])
+    } else {
+        empty.txns[t]
+    });
     judged(sites, table.len(), State { txns, ..empty })
 }
 
