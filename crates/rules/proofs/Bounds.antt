@@ -18,7 +18,6 @@ use Rattle.rules.specs.Turn.{index_of}
 
 -- an index is below what the number of things is at most
 index_below : (k n m : ℕ) → 1 ≤ n → n ≤ m → index_of k n < m
-unfolding index_of
 index_below k n m l h = go (test (nat_lt k n))
   where
     go : Test (nat_lt k n) → cond (nat_lt k n) k 0 < m

@@ -1,8 +1,8 @@
 -- The events that a list of numbers holds, one after the other: each is that of the next seven numbers.
 use Rattle.std.specs.Prelude.{slice_index_or}
 use Rattle.std.specs.Simd.{first_chunks}
-use Prim.Native.Nat.{ℕ, zero, suc, ◌+◌, ◌/◌, ◌<◌}
-use mathlib.Core.Path.{◌≡◌, refl, sym, subst}
+use Prim.Native.Nat.{ℕ, zero, suc, ◌/◌, ◌<◌}
+use mathlib.Core.Path.{◌≡◌, refl}
 use mathlib.Core.List.{List, [], ◌∷◌}
 use native.Mathlib.Omega.{arith}
 use lib.ListN.{length, drop}
@@ -11,6 +11,9 @@ use Rattle.rules.specs.Events.{event_in}
 
 abbrev pub chunks : List ℕ → List (List ℕ)
 chunks l = first_chunks 7 (length l / 7) l
+
+seven : (a i t x f r w : ℕ) (l : List ℕ) → length (a ∷ i ∷ t ∷ x ∷ f ∷ r ∷ w ∷ l) / 7 ≡ suc (length l / 7)
+seven a i t x f r w l = omega arith
 
 -- from event k on
 pub events_from : (l : List ℕ) (k : ℕ) → k < length l / 7
@@ -23,12 +26,5 @@ events_from (a ∷ i ∷ t ∷ []) k h = absurd (omega arith)
 events_from (a ∷ i ∷ t ∷ x ∷ []) k h = absurd (omega arith)
 events_from (a ∷ i ∷ t ∷ x ∷ f ∷ []) k h = absurd (omega arith)
 events_from (a ∷ i ∷ t ∷ x ∷ f ∷ r ∷ []) k h = absurd (omega arith)
-events_from (a ∷ i ∷ t ∷ x ∷ f ∷ r ∷ w ∷ l) k h =
-    let n : length (a ∷ i ∷ t ∷ x ∷ f ∷ r ∷ w ∷ l) / 7 ≡ suc (length l / 7) = omega arith in
-    subst (λ (m : ℕ). drop k (events_of (a ∷ i ∷ t ∷ x ∷ f ∷ r ∷ w ∷ l)) ≡ event_in (slice_index_or (first_chunks 7 m (a ∷ i ∷ t ∷ x ∷ f ∷ r ∷ w ∷ l)) k []) ∷ drop (suc k) (events_of (a ∷ i ∷ t ∷ x ∷ f ∷ r ∷ w ∷ l))) (sym n)
-    (go k h)
-  where
-    go : (k : ℕ) → k < length (a ∷ i ∷ t ∷ x ∷ f ∷ r ∷ w ∷ l) / 7
-        → drop k (events_of (a ∷ i ∷ t ∷ x ∷ f ∷ r ∷ w ∷ l)) ≡ event_in (slice_index_or (first_chunks 7 (suc (length l / 7)) (a ∷ i ∷ t ∷ x ∷ f ∷ r ∷ w ∷ l)) k []) ∷ drop (suc k) (events_of (a ∷ i ∷ t ∷ x ∷ f ∷ r ∷ w ∷ l))
-    go zero h = refl
-    go (suc k) h = events_from l k (omega arith)
+events_from (a ∷ i ∷ t ∷ x ∷ f ∷ r ∷ w ∷ l) zero h = rw (seven a i t x f r w l) refl
+events_from (a ∷ i ∷ t ∷ x ∷ f ∷ r ∷ w ∷ l) (suc k) h = rw (seven a i t x f r w l) (events_from l k (omega arith))

@@ -102,7 +102,7 @@ module _ (s : State) (es : List Event) (old : List ℕ) where
 
 -- a run that is not refused
 pub run_fine : (n room : ℕ) (s : State) → run_refusal n room s ≡ 0 → (in_range s ≡ true) × (n ≤ max_events) × (n ≤ room)
-unfolding run_refusal first_of
+unfolding first_of
 run_fine n room s h = go (in_range s) (test (nat_lt max_events n)) (test (nat_lt room n)) h
   where
     go : (b : Bool) → Test (nat_lt max_events n) → Test (nat_lt room n)
@@ -113,22 +113,23 @@ run_fine n room s h = go (in_range s) (test (nat_lt max_events n)) (test (nat_lt
     go true (not_so p) (not_so q) h = (refl, ltb-false max_events n p, ltb-false room n q)
     go false (not_so p) (not_so q) h = absurd (let z : ◌≡◌ {A = ℕ} 1 0 = rw (p, q) at h in omega arith)
 
-module _ (s : State) (es : List Event) (old : List ℕ) (n : ℕ) (k : ℕ) (count : length es ≡ n)
-    (number : k ≡ run_refusal n (length old) s) where
-  answer_is : run_answer s es (length old) ≡ k
-  unfolding run_answer run_checks run_refusal
-  answer_is = rw (count, number)
+module _ (s : State) (es : List Event) (old : List ℕ) (n : ℕ) (count : length es ≡ n) where
+  answer_is : run_answer s es (length old) ≡ run_refusal n (length old) s
+  unfolding run_answer run_checks
+  answer_is = rw count
 
   -- what is promised of the result r and of the places for answers
   abbrev pub Promised : Ran → List ℕ → Type 0
   Promised r out = (r ≡ run s es (length old)) × (out ≡ answers_after s es old)
 
-  pub refused : (k ≡ 0 → ⊥) → Promised (record { answer = k; sent = 0; state = s }) old
-  refused z =
-      let no : run_answer s es (length old) ≡ 0 → ⊥ = λ h. z (sym answer_is ∙ h) in
-      (sym (run-refused s es (length old) no ∙ rw answer_is), sym (answers_kept s es old no))
+  pub refused : (k : ℕ) → k ≡ run_refusal n (length old) s → (k ≡ 0 → ⊥)
+      → Promised (record { answer = k; sent = 0; state = s }) old
+  refused k e z =
+      let no : run_answer s es (length old) ≡ 0 → ⊥ = λ h. z (e ∙ sym answer_is ∙ h) in
+      (sym (run-refused s es (length old) no ∙ rw (answer_is, e)), sym (answers_kept s es old no))
 
-  pub completed : k ≡ 0 → (r : Ran) (out : List ℕ) → r ≡ record { answer = 0; sent = sent_by s es; state = state_after s es }
+  pub completed : run_refusal n (length old) s ≡ 0 → (r : Ran) (out : List ℕ)
+      → r ≡ record { answer = 0; sent = sent_by s es; state = state_after s es }
       → out ≡ answers_of s es ++ drop (length es) old → Promised r out
   completed z r out p q =
       let yes : run_answer s es (length old) ≡ 0 = answer_is ∙ z in

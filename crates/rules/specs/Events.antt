@@ -20,5 +20,5 @@ event_in l = record {
 
 -- why a run of n events with so much room for answers is refused, or 0: `run_answer` of document 01, of which the code knows
 -- the events by their number alone (proofs/Running.antt)
-unfoldable pub run_refusal : ℕ → ℕ → State → ℕ
+abbrev pub run_refusal : ℕ → ℕ → State → ℕ
 run_refusal n room s = first_of (given 31 (nat_lt max_events n) ∷ given 32 (nat_lt room n) ∷ given 1 (not (in_range s)) ∷ [])

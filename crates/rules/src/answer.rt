@@ -14,7 +14,7 @@ use protocol::{
 
 // Where an action is taken: anywhere, at the transaction's home, or away from it.
 #[derive(Clone, Copy)]
-pub(crate) enum Home {
+enum Home {
     Either,
     Home,
     Away,
@@ -183,15 +183,19 @@ pub(crate) fn refusal(a: Action, clash: bool, t: Slot, h: Here) -> Result<(), Re
             demand(v == BLOCKED, Refusal::WrongStatus).and(demand(!clash, Refusal::LockClash))
         }
         Action::BeginCommit => demand(v == ACTIVE, Refusal::WrongStatus),
-        Action::EndCommit => demand(v == PRE_COMMIT, Refusal::WrongStatus)
-            .and(demand(sets::is_empty(x.missing), Refusal::WrongMissing)),
+        Action::EndCommit => demand(v == PRE_COMMIT, Refusal::WrongStatus).and(demand(
+            sets::is_empty(x.missing),
+            Refusal::WrongMissing,
+        )),
         Action::LocalAbort => demand(v == BLOCKED, Refusal::WrongStatus),
         Action::Receive(m) => receive_refusal(m, h, t),
         Action::ExecuteRemote => demand(!sets::is_empty(p.queue) && p.remove, Refusal::NoScan),
         Action::Discard(m) => {
             let c = p.channel;
-            demand(v == ABORTED, Refusal::WrongStatus)
-                .and(demand(lies(m, t, c), Refusal::NoMessage))
+            demand(v == ABORTED, Refusal::WrongStatus).and(demand(
+                lies(m, t, c),
+                Refusal::NoMessage,
+            ))
         }
     }
 }

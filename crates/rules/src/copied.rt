@@ -4,13 +4,12 @@ ghost use Rattle.protocol.specs.State.{empty_state, txn_in};
 ghost use Rattle.protocol.specs.Refusals.{answer_of, started};
 ghost use Rattle.rules.specs.Copied.{from_entry, started_row, started_rows, setup_refusal, judged_of};
 
-use std::array;
-
 use crate::answer::demand;
 use crate::table::{count_fine, homes_fine, priorities_differ, sites_fine};
 use protocol::{
     Answered, Channel, Entry, IDLE, Log, Place, Refusal, Row, SITES, START, State, Txn,
 };
+use std::array;
 
 // The empty state.
 #[tactic(auto, unfolding(protocol::specs::State::empty_state))]
@@ -73,7 +72,11 @@ pub(crate) fn with_entry(x: Txn, e: Entry) -> Txn
 fn started_row(n: usize, xs: [Txn; 32], i: usize) -> Row
     ensures { result ≡ started_row n (λ t. (txn_in xs t).home) i }
 {
-    let status = array::from_fn(|t| if t < n && xs[t].home as usize == i { START } else { IDLE });
+    let status = array::from_fn(|t| if t < n && xs[t].home as usize == i {
+        START
+    } else {
+        IDLE
+    });
     Row { status }
 }
 

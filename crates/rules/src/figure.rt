@@ -8,7 +8,9 @@ use crate::database::{ended, stored, woken};
 use crate::row::row_with;
 use crate::slot::Slot;
 use crate::{Here, Turn};
-use protocol::{ABORTED, ACTIVE, Action, BLOCKED, COMMITTED, Message, PRE_COMMIT, Place, Scan, Txn};
+use protocol::{
+    ABORTED, ACTIVE, Action, BLOCKED, COMMITTED, Message, PRE_COMMIT, Place, Scan, Txn,
+};
 
 // What stands here, with the status v for transaction t.
 fn with_status(h: Here, t: Slot, v: u8) -> Here

@@ -26,13 +26,12 @@ pub(crate) mod stepping;
 pub(crate) mod table;
 pub(crate) mod view;
 
-use std::array;
-
 use crate::answer::demand;
 use crate::copied::{blank, judged, with_entry};
 use crate::course::{performed, taken};
 use crate::range::in_range;
 use protocol::{Answered, Entry, Event, Message, Place, Refusal, Row, Scan, State, Txn};
+use std::array;
 
 // What an event reads of the state and can change there, but for the channels of other sites: the statuses at its site, what
 // else belongs to the site, and its transaction.
@@ -67,7 +66,11 @@ pub fn setup(sites: u32, table: &[Entry]) -> Answered<()>
     ensures { started result ≡ setup sites table.now }
 {
     let empty = blank();
-    let txns = array::from_fn(|t| if t < table.len() { with_entry(empty.txns[t], table[t]) } else { empty.txns[t] });
+    let txns = array::from_fn(|t| if t < table.len() {
+        with_entry(empty.txns[t], table[t])
+    } else {
+        empty.txns[t]
+    });
     judged(sites, table.len(), State { txns, ..empty })
 }
 
@@ -82,6 +85,7 @@ pub fn setup_of(sites: u32, n: usize, entries: [Entry; 32]) -> Answered<()>
 }
 
 // What the event returns: how many messages it sent, or its refusal, and the state after it.
+#[tactic(auto, using(laws::specs::Enabled::out_step))]
 pub fn step(s: State, e: Event) -> Answered<u32>
     ensures { stepped result ≡ step s e }
 {
@@ -95,6 +99,7 @@ pub fn step(s: State, e: Event) -> Answered<u32>
 }
 
 // Why a run of n events with room for so many answers is refused.
+#[tactic(auto, unfolding(protocol::specs::Check::first_of))]
 fn run_refusal(n: usize, room: usize, s: State) -> Result<(), Refusal>
     ensures { answer_of result ≡ run_refusal n room s }
 {
