@@ -42,7 +42,11 @@ pub(crate) fn performed(s: State, events: &[u32], answers: &mut [u8]) -> Ran
             txn: state.txns[t],
         };
         let told = if asks_table(e, i, here) {
-            let view = View { txns: &state.txns, count: state.count as usize, site: i };
+            let view = View {
+                txns: &state.txns,
+                count: state.count as usize,
+                site: i,
+            };
             consulted(e, &view, Slot::at(t), here)
         } else {
             untold(here)

@@ -62,11 +62,9 @@ impl View<'_> {
     pub(crate) fn clash(&self, r: Row, t: Slot) -> bool
         ensures { result ≡ clash self.now.count self.now.txns.now self.now.site r t }
     {
-        let xs = self.txns;
-        let i = self.site;
+        let x = &self.txns[t.index()];
         (0..self.count).any(|u| {
-            u != t.index()
-                && clashes_with(&xs[t.index()], &xs[u], i, status_in(r, Slot::at(u)))
+            u != t.index() && clashes_with(x, &self.txns[u], self.site, status_in(r, Slot::at(u)))
         })
     }
 
@@ -74,12 +72,11 @@ impl View<'_> {
     pub(crate) fn conflicts(&self, r: Row, t: Slot) -> u32
         ensures { result ≡ conflicts self.now.count self.now.txns.now self.now.site r t }
     {
-        let xs = self.txns;
-        let i = self.site;
+        let x = &self.txns[t.index()];
         (0..self.count)
             .filter(|u| {
                 *u != t.index()
-                    && conflicts_with(&xs[t.index()], &xs[*u], i, status_in(r, Slot::at(*u)))
+                    && conflicts_with(x, &self.txns[*u], self.site, status_in(r, Slot::at(*u)))
             })
             .fold(0, |them, u| sets::with(them, u))
     }

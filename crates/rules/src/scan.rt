@@ -33,10 +33,9 @@ impl View<'_> {
     fn must_wait(&self, r: Row, t: Slot, them: u32) -> bool
         ensures { result ≡ must_wait self.now.count self.now.txns.now self.now.site r t them }
     {
-        let xs = self.txns;
-        let i = self.site;
+        let x = &self.txns[t.index()];
         (0..self.count).any(|u| {
-            sets::has(them, u) && makes_wait(&xs[t.index()], &xs[u], i, status_in(r, Slot::at(u)))
+            sets::has(them, u) && makes_wait(x, &self.txns[u], self.site, status_in(r, Slot::at(u)))
         })
     }
 
@@ -53,13 +52,11 @@ impl View<'_> {
     fn submits(&self, t: Slot, them: u32, c: Scan) -> Scan
         ensures { result ≡ submits self.now.count t them c }
     {
-        let row = c.row;
-        let before = row.status;
-        let status = store_at(them, ABORTED, before);
+        let status = store_at(them, ABORTED, c.row.status);
         Scan {
             rest: sets::without(c.rest, t.index()),
             row: row_with(Row { status }, t, BLOCKED),
-            aborts: sets::union(c.aborts, self.asked(row, them)),
+            aborts: sets::union(c.aborts, self.asked(c.row, them)),
             readies: sets::with(c.readies, t.index()),
             ..c
         }
