@@ -1,6 +1,6 @@
 // The database under each site: what a transaction holds, what clashes and conflicts, the end of an operation, and
 // commit here.
-#![tactic(auto, unfolding(protocol::specs::Database::executes, protocol::specs::Database::held_reads, protocol::specs::Database::held_writes, protocol::specs::Database::held, protocol::specs::Database::clashes_with, protocol::specs::Database::conflicts_with, protocol::specs::Database::woken, protocol::specs::Database::appended, protocol::specs::Database::stored, protocol::specs::Database::ended))]
+#![tactic(auto, unfolding(protocol::specs::Database::executes, protocol::specs::Database::held_reads, protocol::specs::Database::held_writes, protocol::specs::Database::held, protocol::specs::Database::clashes_with, protocol::specs::Database::conflicts_with, protocol::specs::Database::woken, protocol::specs::Database::appended, protocol::specs::Database::stored, protocol::specs::Database::ended,))]
 
 ghost use Rattle.std.specs.Prelude.{◌≡◌, ℕ, ◌<◌, slice_index_or};
 ghost use Rattle.protocol.specs.Database.{executes, held_reads, held_writes, held, clashes_with, conflicts_with, clash, conflicts, noted, ended, woken, appended, stored};
@@ -74,11 +74,11 @@ impl View<'_> {
     {
         let x = &self.txns[t.index()];
         (0..self.count)
-            .filter(|u| {
-                *u != t.index()
-                    && conflicts_with(x, &self.txns[*u], self.site, status_in(r, Slot::at(*u)))
+            .filter(|&u| {
+                u != t.index()
+                    && conflicts_with(x, &self.txns[u], self.site, status_in(r, Slot::at(u)))
             })
-            .fold(0, |them, u| sets::with(them, u))
+            .fold(0, sets::with)
     }
 }
 

@@ -1,5 +1,5 @@
 // The scan: the queue of a site taken by priority.
-#![tactic(auto, unfolding(protocol::specs::Scan::makes_wait, protocol::specs::Scan::waits, protocol::specs::Scan::submits, protocol::specs::Scan::scan_with, protocol::specs::Scan::scan_one))]
+#![tactic(auto, unfolding(protocol::specs::Scan::makes_wait, protocol::specs::Scan::waits, protocol::specs::Scan::submits, protocol::specs::Scan::scan_with, protocol::specs::Scan::scan_one,))]
 
 ghost use Rattle.std.specs.Prelude.{◌≡◌};
 ghost use Rattle.protocol.specs.Scan.{makes_wait, waits, asked, submits, must_wait, scan_with, scan_one, scan_all};
@@ -44,8 +44,8 @@ impl View<'_> {
         ensures { result ≡ asked self.now.count r them }
     {
         (0..self.count)
-            .filter(|u| sets::has(them, *u) && status_in(r, Slot::at(*u)) == PRE_COMMIT)
-            .fold(0, |found, u| sets::with(found, u))
+            .filter(|&u| sets::has(them, u) && status_in(r, Slot::at(u)) == PRE_COMMIT)
+            .fold(0, sets::with)
     }
 
     // t is submitted: its conflicts are aborted, ready goes home, and it is blocked.
