@@ -1,4 +1,4 @@
-// What the table of transactions tells an event. Few events ask it, and only those copy it.
+// What the table of transactions tells an event. Few events ask it.
 #![tactic(auto, unfolding(crate::specs::Turn::asks_table))]
 
 ghost use Rattle.std.specs.Prelude.{◌≡◌, true};
@@ -13,11 +13,9 @@ use protocol::{Event, Scan};
 fn begun(h: Here) -> Scan
     ensures { result ≡ scan_of h }
 {
-    let p = h.place;
-    let row = h.row;
     Scan {
-        rest: p.queue,
-        row,
+        rest: h.place.queue,
+        row: h.row,
         waiting: 0,
         aborts: 0,
         readies: 0,
@@ -28,8 +26,7 @@ fn begun(h: Here) -> Scan
 pub(crate) fn asks_table(e: Event, i: usize, h: Here) -> bool
     ensures { result ≡ asks_table e i h }
 {
-    let x = h.txn;
-    e.action == 11 || (e.action == 3 && x.home as usize == i)
+    e.action == 11 || (e.action == 3 && h.txn.home as usize == i)
 }
 
 // What an event is told that does not ask it.

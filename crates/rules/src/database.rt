@@ -1,6 +1,6 @@
 // The database under each site: what a transaction holds, what clashes and conflicts, the end of an operation, and
 // commit here.
-#![tactic(auto, unfolding(protocol::specs::Database::executes, protocol::specs::Database::held_reads, protocol::specs::Database::held_writes, protocol::specs::Database::held, protocol::specs::Database::clashes_with, protocol::specs::Database::conflicts_with, protocol::specs::Database::woken, protocol::specs::Database::appended, protocol::specs::Database::stored, protocol::specs::Database::ended))]
+#![tactic(auto, unfolding(protocol::specs::Database::executes, protocol::specs::Database::held_reads, protocol::specs::Database::held_writes, protocol::specs::Database::held, protocol::specs::Database::clashes_with, protocol::specs::Database::conflicts_with, protocol::specs::Database::woken, protocol::specs::Database::appended, protocol::specs::Database::stored, protocol::specs::Database::ended,))]
 
 ghost use Rattle.std.specs.Prelude.{◌≡◌, ℕ, ◌<◌, slice_index_or};
 ghost use Rattle.protocol.specs.Database.{executes, held_reads, held_writes, held, clashes_with, conflicts_with, clash, conflicts, noted, ended, woken, appended, stored};
@@ -62,11 +62,9 @@ impl View<'_> {
     pub(crate) fn clash(&self, r: Row, t: Slot) -> bool
         ensures { result ≡ clash self.now.count self.now.txns.now self.now.site r t }
     {
-        let xs = self.txns;
-        let i = self.site;
+        let x = &self.txns[t.index()];
         (0..self.count).any(|u| {
-            u != t.index()
-                && clashes_with(&xs[t.index()], &xs[u], i, status_in(&r, u))
+            u != t.index() && clashes_with(x, &self.txns[u], self.site, status_in(&r, u))
         })
     }
 
@@ -74,14 +72,13 @@ impl View<'_> {
     pub(crate) fn conflicts(&self, r: Row, t: Slot) -> u32
         ensures { result ≡ conflicts self.now.count self.now.txns.now self.now.site r t }
     {
-        let xs = self.txns;
-        let i = self.site;
+        let x = &self.txns[t.index()];
         (0..self.count)
-            .filter(|u| {
-                *u != t.index()
-                    && conflicts_with(&xs[t.index()], &xs[*u], i, status_in(&r, *u))
+            .filter(|&u| {
+                u != t.index()
+                    && conflicts_with(x, &self.txns[u], self.site, status_in(&r, u))
             })
-            .fold(0, |them, u| sets::with(them, u))
+            .fold(0, sets::with)
     }
 }
 

@@ -1,5 +1,5 @@
 // The scan: the queue of a site taken by priority.
-#![tactic(auto, unfolding(protocol::specs::Scan::makes_wait, protocol::specs::Scan::waits, protocol::specs::Scan::submits, protocol::specs::Scan::scan_with, protocol::specs::Scan::scan_one))]
+#![tactic(auto, unfolding(protocol::specs::Scan::makes_wait, protocol::specs::Scan::waits, protocol::specs::Scan::submits, protocol::specs::Scan::scan_with, protocol::specs::Scan::scan_one,))]
 
 ghost use Rattle.std.specs.Prelude.{◌≡◌};
 ghost use Rattle.protocol.specs.Scan.{makes_wait, waits, asked, submits, must_wait, scan_with, scan_one, scan_all};
@@ -33,10 +33,9 @@ impl View<'_> {
     fn must_wait(&self, r: Row, t: Slot, them: u32) -> bool
         ensures { result ≡ must_wait self.now.count self.now.txns.now self.now.site r t them }
     {
-        let xs = self.txns;
-        let i = self.site;
+        let x = &self.txns[t.index()];
         (0..self.count).any(|u| {
-            sets::has(them, u) && makes_wait(&xs[t.index()], &xs[u], i, status_in(&r, u))
+            sets::has(them, u) && makes_wait(x, &self.txns[u], self.site, status_in(&r, u))
         })
     }
 
@@ -45,21 +44,19 @@ impl View<'_> {
         ensures { result ≡ asked self.now.count r them }
     {
         (0..self.count)
-            .filter(|u| sets::has(them, *u) && status_in(&r, *u) == PRE_COMMIT)
-            .fold(0, |found, u| sets::with(found, u))
+            .filter(|&u| sets::has(them, u) && status_in(&r, u) == PRE_COMMIT)
+            .fold(0, sets::with)
     }
 
     // t is submitted: its conflicts are aborted, ready goes home, and it is blocked.
     fn submits(&self, t: Slot, them: u32, c: Scan) -> Scan
         ensures { result ≡ submits self.now.count t them c }
     {
-        let row = c.row;
-        let before = row.status;
-        let status = store_at(them, ABORTED, before);
+        let status = store_at(them, ABORTED, c.row.status);
         Scan {
             rest: sets::without(c.rest, t.index()),
             row: row_with(Row { status }, t, BLOCKED),
-            aborts: sets::union(c.aborts, self.asked(row, them)),
+            aborts: sets::union(c.aborts, self.asked(c.row, them)),
             readies: sets::with(c.readies, t.index()),
             ..c
         }

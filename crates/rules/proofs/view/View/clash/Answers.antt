@@ -1,13 +1,8 @@
-use Rattle.std.proofs.Common.{refl, ◌∙◌, rules, tests}
-use Rattle.std.proofs.lemmas.Iterator.{YieldsList-from_range}
-use Rattle.std.proofs.lemmas.Iterator.Search.{any_from_yields_List}
+use Rattle.std.proofs.Common.{rules, tests}
 use Rattle.protocol.specs.Database.{clash}
-use Rattle.rules.proofs.Walks.{any_below}
+use Rattle.rules.proofs.Walks.{some_found}
 use Rattle.rules.proofs.view.View.clash.Goals as goal
 
 pub returns : goal.returns
 unfolding clash
-returns c =
-    let n = c.args.self.now.count in
-    any_from_yields_List _ _ _ _ c.any.ensures.ran (YieldsList-from_range 0 n n refl (search rules)) (λ x b q k. search (rules, tests))
-    ∙ any_below _ n
+returns c = some_found _ c.args.self.now.count _ c.any.ensures.ran (λ x b q k. search (rules, tests))
