@@ -120,11 +120,9 @@ fn logged_once(n: usize, r: &Row, log: &[u8]) -> bool
 fn log_fine(n: usize, r: &Row, p: &Place) -> bool
     ensures { result ≡ log_fine n r.now p.now }
 {
-    let length = p.log.length as usize;
-    if 32 < length {
+    let Some(log) = p.log.entries.get(..p.log.length as usize) else {
         return false;
-    }
-    let log = &p.log.entries[..length];
+    };
     entries_fine(n, log) && logged_once(n, r, log)
 }
 
