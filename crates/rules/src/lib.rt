@@ -101,7 +101,7 @@ pub fn setup_of(sites: u32, n: usize, entries: [Entry; 32]) -> Started
 pub fn step(s: State, e: Event) -> Stepped
     ensures { result ≡ step s e }
 {
-    if in_range(s) {
+    if in_range(&s) {
         let events = [e.action, e.site, e.txn, e.kind, e.from, e.reads, e.writes];
         let mut answers = [0u8; 1];
         let r = performed(s, &events, &mut answers);
@@ -130,7 +130,7 @@ fn run_refusal(n: usize, room: usize, s: State) -> u32
     if room < n {
         return NO_ROOM;
     }
-    if in_range(s) { ACCEPTED } else { OUT_OF_RANGE }
+    if in_range(&s) { ACCEPTED } else { OUT_OF_RANGE }
 }
 
 // Takes the events, seven numbers each, one after the other, past refused ones, and writes one answer an event. A run

@@ -1,5 +1,5 @@
 -- The tests are those of the definition and in its order.
-use Rattle.std.proofs.Common.{◌∙◌, arith}
+use Rattle.std.proofs.Common.{◌∙◌, arith, length-take-le}
 use Rattle.rules.proofs.Fresh.{holds, fails, few}
 use Rattle.rules.proofs.Ranges.{homes_of_first, priorities_of_first}
 use Rattle.rules.specs.Copied.{judged_by, judged_with, judged_of}
@@ -25,7 +25,7 @@ returns-then-not-homes_fine c =
       c.refused-then-not-homes_fine.ensures,
       holds c.sites_fine.ensures c.if-not-sites_fine.false,
       holds c.count_fine.ensures c.if-not-count_fine.false,
-      fails (c.homes_fine.ensures ∙ homes_of_first _ _ (omega (arith, few _ (holds c.count_fine.ensures c.if-not-count_fine.false))) _) c.if-not-homes_fine.true,
+      fails (c.homes_fine.ensures ∙ homes_of_first _ _ (length-take-le _ _ (omega (arith, few _ (holds c.count_fine.ensures c.if-not-count_fine.false)))) _) c.if-not-homes_fine.true,
     )
 
 pub returns-then-not-priorities_differ : goal.returns-then-not-priorities_differ
@@ -35,8 +35,8 @@ returns-then-not-priorities_differ c =
       c.refused-then-not-priorities_differ.ensures,
       holds c.sites_fine.ensures c.if-not-sites_fine.false,
       holds c.count_fine.ensures c.if-not-count_fine.false,
-      holds (c.homes_fine.ensures ∙ homes_of_first _ _ (omega (arith, few _ (holds c.count_fine.ensures c.if-not-count_fine.false))) _) c.if-not-homes_fine.false,
-      fails (c.priorities_differ.ensures ∙ priorities_of_first _ _ (omega (arith, few _ (holds c.count_fine.ensures c.if-not-count_fine.false)))) c.if-not-priorities_differ.true,
+      holds (c.homes_fine.ensures ∙ homes_of_first _ _ (length-take-le _ _ (omega (arith, few _ (holds c.count_fine.ensures c.if-not-count_fine.false)))) _) c.if-not-homes_fine.false,
+      fails (c.priorities_differ.ensures ∙ priorities_of_first _ _ (length-take-le _ _ (omega (arith, few _ (holds c.count_fine.ensures c.if-not-count_fine.false))))) c.if-not-priorities_differ.true,
     )
 
 pub started_rows-rows-requires : goal.started_rows-rows-requires
@@ -54,6 +54,6 @@ returns c =
       c.started_rows-rows.ensures,
       holds c.sites_fine.ensures c.if-not-sites_fine.false,
       holds c.count_fine.ensures c.if-not-count_fine.false,
-      holds (c.homes_fine.ensures ∙ homes_of_first _ _ (omega (arith, few _ (holds c.count_fine.ensures c.if-not-count_fine.false))) _) c.if-not-homes_fine.false,
-      holds (c.priorities_differ.ensures ∙ priorities_of_first _ _ (omega (arith, few _ (holds c.count_fine.ensures c.if-not-count_fine.false)))) c.if-not-priorities_differ.false,
+      holds (c.homes_fine.ensures ∙ homes_of_first _ _ (length-take-le _ _ (omega (arith, few _ (holds c.count_fine.ensures c.if-not-count_fine.false)))) _) c.if-not-homes_fine.false,
+      holds (c.priorities_differ.ensures ∙ priorities_of_first _ _ (length-take-le _ _ (omega (arith, few _ (holds c.count_fine.ensures c.if-not-count_fine.false))))) c.if-not-priorities_differ.false,
     )
