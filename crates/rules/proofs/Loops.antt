@@ -2,7 +2,7 @@
 use Rattle.std.specs.Prelude.{nat_lt, slice_index_or}
 use Prim.Native.Nat.{ℕ, zero, suc, ◌+◌, ◌≤◌, ◌<◌}
 use mathlib.Core.Path.{◌≡◌, refl, sym, ap, ap₂, ◌∙◌, subst}
-use mathlib.Core.Bool.{Bool, true, false, cond, ◌&&◌}
+use mathlib.Core.Bool.{Bool, true, false, cond}
 use mathlib.Core.List.{List, [], ◌∷◌}
 use native.Mathlib.Nat.{le_antisymm}
 use native.Mathlib.Numerals.{add-one}
@@ -12,7 +12,7 @@ use lib.Seq.{get_or-set_same, get_or-set_other, ext_get_or}
 use borrow.Author.Tests.{lt-ltb, le-ltb, ltb-true, ltb-false}
 use Rattle.sets.specs.Set.{has, none, is_empty, with, with_in, those}
 use Rattle.sets.specs.Laws.{empty_none}
-use Rattle.protocol.specs.Lists.{each_from, each, store_at, all_below}
+use Rattle.protocol.specs.Lists.{each_from, each, store_at}
 use Rattle.laws.specs.Tests.{Test, yes_so, not_so, test, Same, same, other, same?}
 use Rattle.laws.specs.Lists.{length-each, get_or-each}
 
@@ -113,15 +113,3 @@ module _ (p : ℕ → Bool) where
   unfolding those
   those_passed k w e t = rw (add-one k, t) e
 
-  -- ---- loops that test
-
-  pub all_begun : true ≡ all_below 0 p
-  unfolding all_below
-  all_begun = refl
-
-  pub all_turned : (k : ℕ) (b c : Bool) → b ≡ all_below k p → c ≡ p k → (b && c) ≡ all_below (k + 1) p
-  unfolding all_below
-  all_turned k b c e t = rw (add-one k, e, t)
-
-  pub all_ended : (n k : ℕ) (b : Bool) → n ≤ k → k ≤ n → b ≡ all_below n p → b ≡ all_below k p
-  all_ended n k b g h e = ended (λ j. all_below j p) b n k g h e

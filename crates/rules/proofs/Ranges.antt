@@ -14,7 +14,7 @@ use Rattle.std.proofs.iter.Yields.{fronts, nat_range_steps}
 use Rattle.std.proofs.lemmas.Iterator.{YieldsList-from_range, YieldsList-from_slice}
 use Rattle.std.proofs.lemmas.Iterator.Consumers.{YieldsList-from_enumerate}
 use Rattle.std.proofs.lemmas.Iterator.Search.{all_from_yields_List}
-use Rattle.std.proofs.lemmas.List.{get_or-take, length-take-le}
+use Rattle.std.proofs.lemmas.List.{get_or-take}
 use Rattle.std.proofs.lemmas.List.Folds.{list_all_more}
 use Rattle.std.proofs.lemmas.List.FromFn.{get_or-range_with_len, length-range_with_len, get_or-enumerate_from, length-enumerate_from}
 use denote.Param.Members.{Mut}
@@ -103,16 +103,16 @@ times_of_list t (x ∷ l) = counted_on (x == t) x (filter (λ y. y == t) l) (tim
 
 -- ---- the first n elements of a list stand where they stood
 
-module _ {A : Type 0} (d : A) (n : ℕ) (l : List A) (h : n ≤ length l) where
+module _ {A : Type 0} (d : A) (n : ℕ) (l : List A) (h : length (take n l) ≡ n) where
   pub all_of_first : (q : ℕ → A → Bool)
       → all_below (length (take n l)) (λ t. q t (slice_index_or (take n l) t d)) ≡ all_below n (λ t. q t (slice_index_or l t d))
   all_of_first q =
-      ap (λ k. all_below k (λ t. q t (slice_index_or (take n l) t d))) (length-take-le n l h)
+      ap (λ k. all_below k (λ t. q t (slice_index_or (take n l) t d))) h
       ∙ all_same n _ _ (λ t g. ap (q t) (get_or-take n l t d g))
 
 -- ---- the first n transactions of the table
 
-module _ (n : ℕ) (xs : List Txn) (h : n ≤ length xs) where
+module _ (n : ℕ) (xs : List Txn) (h : length (take n xs) ≡ n) where
   pub homes_of_first : (sites : ℕ)
       → homes_fine sites (length (take n xs)) (λ t. (txn_in (take n xs) t).home) ≡ homes_fine sites n (λ t. (txn_in xs t).home)
   unfolding homes_fine
@@ -122,7 +122,7 @@ module _ (n : ℕ) (xs : List Txn) (h : n ≤ length xs) where
       priorities_differ (length (take n xs)) (λ t. (txn_in (take n xs) t).priority) ≡ priorities_differ n (λ t. (txn_in xs t).priority)
   unfolding priorities_differ
   priorities_of_first =
-      rw (length-take-le n xs h)
+      rw h
       (all_same n _ _ (λ t g. all_same t _ _ (λ u k. rw (get_or-take n xs t no_txn g, get_or-take n xs u no_txn (omega (arith, g, k))))))
 
   pub txns_of_first : (sites : ℕ)
@@ -130,12 +130,12 @@ module _ (n : ℕ) (xs : List Txn) (h : n ≤ length xs) where
       ≡ all_below n (λ t. txn_fine sites n (txn_in xs t))
   txns_of_first sites =
       all_of_first no_txn n xs h (λ t x. txn_fine sites (length (take n xs)) x)
-      ∙ ap (λ k. all_below n (λ t. txn_fine sites k (txn_in xs t))) (length-take-le n xs h)
+      ∙ ap (λ k. all_below n (λ t. txn_fine sites k (txn_in xs t))) h
 
   site_of_first : (sites i : ℕ) (r : Row) (p : Place) → site_fine sites (length (take n xs)) (take n xs) i r p ≡ site_fine sites n xs i r p
   unfolding site_fine queue_fine
   site_of_first sites i r p =
-      rw (length-take-le n xs h)
+      rw h
       (ap (λ b. statuses_fine n r && (channel_fine sites n p.channel && (versions_fine n p && ((within n p.queue && b) && log_fine n r p))))
       (all_same n _ _ (λ t g. ap (λ x. not (has p.queue t) || (not (x.home == i) && status_in r t == idle)) (get_or-take n xs t no_txn g))))
 
@@ -145,7 +145,7 @@ module _ (n : ℕ) (xs : List Txn) (h : n ≤ length xs) where
   places_of_first s = all_same s.sites _ _ (λ i g. site_of_first s.sites i (row_at s i) (place_at s i))
 
 -- where the counts are fine, a state is in range if the first transactions of its table and its sites are
-pub in_range_by_parts : (s : State) → s.count ≤ length s.txns → sites_fine s.sites ≡ true → count_fine s.count ≡ true
+pub in_range_by_parts : (s : State) → length (take s.count s.txns) ≡ s.count → sites_fine s.sites ≡ true → count_fine s.count ≡ true
     → in_range s
     ≡ (homes_fine s.sites (length (take s.count s.txns)) (λ t. (txn_in (take s.count s.txns) t).home)
     && priorities_differ (length (take s.count s.txns)) (λ t. (txn_in (take s.count s.txns) t).priority))

@@ -90,7 +90,7 @@ pub fn step(s: State, e: Event) -> Answered<u32>
     ensures { stepped result ≡ step s e }
 {
     let mut state = s;
-    let outcome = if in_range(s) {
+    let outcome = if in_range(&s) {
         taken(&mut state, e)
     } else {
         Err(Refusal::OutOfRange)
@@ -105,7 +105,7 @@ fn run_refusal(n: usize, room: usize, s: State) -> Result<(), Refusal>
 {
     demand(n <= 1024, Refusal::TooManyEvents)?;
     demand(n <= room, Refusal::NoRoom)?;
-    demand(in_range(s), Refusal::OutOfRange)
+    demand(in_range(&s), Refusal::OutOfRange)
 }
 
 // Takes the events, seven numbers each, one after the other, past refused ones, and writes one answer an event. A run

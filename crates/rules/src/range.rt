@@ -120,11 +120,9 @@ fn logged_once(n: usize, r: &Row, log: &[u8]) -> bool
 fn log_fine(n: usize, r: &Row, p: &Place) -> bool
     ensures { result ≡ log_fine n r.now p.now }
 {
-    let length = p.log.length as usize;
-    if 32 < length {
+    let Some(log) = p.log.entries.get(..p.log.length as usize) else {
         return false;
-    }
-    let log = &p.log.entries[..length];
+    };
     entries_fine(n, log) && logged_once(n, r, log)
 }
 
@@ -159,8 +157,8 @@ fn places_fine(sites: usize, xs: &[Txn], s: &State) -> bool
 
 // Is the state in range? Where a count is refused nothing else is looked at.
 #[tactic(auto, using(crate::proofs::Ranges::in_range_by_parts), unfolding(protocol::specs::Setup::sites_fine, protocol::specs::Setup::count_fine))]
-pub(crate) fn in_range(s: State) -> bool
-    ensures { result ≡ in_range s }
+pub(crate) fn in_range(s: &State) -> bool
+    ensures { result ≡ in_range s.now }
 {
     let sites = s.sites as usize;
     let n = s.count as usize;
@@ -171,5 +169,5 @@ pub(crate) fn in_range(s: State) -> bool
     homes_fine(s.sites, xs)
         && priorities_differ(xs)
         && txns_fine(sites, xs)
-        && places_fine(sites, xs, &s)
+        && places_fine(sites, xs, s)
 }

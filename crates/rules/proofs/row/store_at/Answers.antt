@@ -1,4 +1,4 @@
-use Rattle.std.proofs.Common.{sym, ◌∙◌, arith, rules}
+use Rattle.std.proofs.Common.{sym, ◌∙◌, rules}
 use Rattle.rules.proofs.Loops.{stored-none, each_begun, each_again, each-ended}
 use Rattle.rules.proofs.row.store_at.Goals.{else-has, then-has}
 use Rattle.rules.proofs.row.store_at.Goals as goal
