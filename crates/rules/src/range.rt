@@ -1,4 +1,4 @@
-// The range test, clause by clause.
+// The range test, clause by clause. The counts of sites and of transactions are two numbers here, as in the definitions.
 ghost use Rattle.std.specs.Prelude.{◌≡◌, not, cond, ◌&&◌, ◌||◌, ◌+◌, ◌<◌, ◌≤◌, ◌==◌, nat_le, nat_lt, length, slice_index_or};
 ghost use Rattle.std.specs.List.{list_all};
 ghost use Rattle.sets.specs.Set.{has};
