@@ -9,6 +9,11 @@ use crate::view::View;
 use crate::{Here, Told};
 use protocol::{Event, Scan};
 
+// The numbers of the actions that ask the table: an end of operation, at home, and a scan.
+const END_OPERATION: u32 = 3;
+
+const EXECUTE_REMOTE: u32 = 11;
+
 // A scan as it begins.
 fn begun(h: Here) -> Scan
     ensures { result ≡ scan_of h }
@@ -26,7 +31,7 @@ fn begun(h: Here) -> Scan
 pub(crate) fn asks_table(e: Event, i: usize, h: Here) -> bool
     ensures { result ≡ asks_table e i h }
 {
-    e.action == 11 || (e.action == 3 && h.txn.home as usize == i)
+    e.action == EXECUTE_REMOTE || (e.action == END_OPERATION && h.txn.home as usize == i)
 }
 
 // What an event is told that does not ask it.
@@ -45,7 +50,7 @@ pub(crate) fn consulted(e: Event, view: &View<'_>, t: Slot, h: Here) -> Told
     ensures { result ≡ told_of e view.now.count view.now.txns.now view.now.site t h }
 {
     let told = untold(h);
-    if e.action == 11 {
+    if e.action == EXECUTE_REMOTE {
         Told {
             scan: view.scan_all(told.scan),
             ..told

@@ -12,8 +12,12 @@ loop-j-init c = each_begun _ no_place _
 pub loop-j-preserved : goal.loop-j-preserved
 loop-j-preserved c =
     elim c.if-has.branch [
-      | then-has w ↦ w.ps-is ∙ each_again _ no_place _ _ _ _ c.loop-j.invariant (omega arith) (rw (← c.has.ensures, w.if-has.true, w.put.ensures))
-      | else-has w ↦ w.ps-is ∙ each_again _ no_place _ _ _ _ c.loop-j.invariant (omega arith) (rw (← c.has.ensures, w.if-has.false, put-none c.args.m))
+      | then-has w ↦
+          w.ps-is
+          ∙ each_again _ no_place _ _ _ _ c.loop-j.invariant (omega arith) (rw (← c.has.ensures, w.if-has.true, w.put.ensures))
+      | else-has w ↦
+          w.ps-is
+          ∙ each_again _ no_place _ _ _ _ c.loop-j.invariant (omega arith) (rw (← c.has.ensures, w.if-has.false, put-none c.args.m))
     ]
 
 pub returns : goal.returns

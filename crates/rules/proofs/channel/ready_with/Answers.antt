@@ -10,8 +10,11 @@ loop-t-init c = each_begun _ 0 _
 pub loop-t-preserved : goal.loop-t-preserved
 loop-t-preserved c =
     elim c.if-has.branch [
-      | then-has w ↦ w.ready-is ∙ each_again _ 0 _ _ _ _ c.loop-t.invariant (omega arith) (rw (← c.has.ensures, w.if-has.true) w.with.ensures)
-      | else-has w ↦ w.ready-is ∙ each_again _ 0 _ _ _ _ c.loop-t.invariant (omega arith) (rw (← c.has.ensures, w.if-has.false))
+      | then-has w ↦
+          w.ready-is
+          ∙ each_again _ 0 _ _ _ _ c.loop-t.invariant (omega arith) (rw (← c.has.ensures, w.if-has.true) w.with.ensures)
+      | else-has w ↦
+          w.ready-is ∙ each_again _ 0 _ _ _ _ c.loop-t.invariant (omega arith) (rw (← c.has.ensures, w.if-has.false))
     ]
 
 pub returns : goal.returns

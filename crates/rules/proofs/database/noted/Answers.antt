@@ -13,8 +13,10 @@ overflow_add-v c = omega (arith, c.requires c.loop-o.o (omega arith))
 pub loop-o-preserved : goal.loop-o-preserved
 loop-o-preserved c =
     elim c.if-has.branch [
-      | then-has w ↦ w.v-items-is ∙ each_again _ 0 _ _ _ _ c.loop-o.invariant (omega arith) (rw (← c.has.ensures, w.if-has.true))
-      | else-has w ↦ w.v-items-is ∙ each_again _ 0 _ _ _ _ c.loop-o.invariant (omega arith) (rw (← c.has.ensures, w.if-has.false))
+      | then-has w ↦
+          w.v-items-is ∙ each_again _ 0 _ _ _ _ c.loop-o.invariant (omega arith) (rw (← c.has.ensures, w.if-has.true))
+      | else-has w ↦
+          w.v-items-is ∙ each_again _ 0 _ _ _ _ c.loop-o.invariant (omega arith) (rw (← c.has.ensures, w.if-has.false))
     ]
 
 pub returns : goal.returns
