@@ -9,8 +9,8 @@ use Rattle.protocol.specs.Run.{run}
 use Rattle.protocol.specs.declared.Entry.{Entry}
 use Rattle.protocol.specs.declared.Event.{Event}
 use Rattle.protocol.specs.declared.State.{State}
-use Rattle.protocol.specs.declared.Started.{Started}
-use Rattle.protocol.specs.declared.Ran.{Ran}
+use Rattle.protocol.specs.Setup.{Started}
+use Rattle.protocol.specs.Run.{Ran}
 use Rattle.scenario.specs.Format.{entries_of}
 use Rattle.exports.specs.Exported.{begun_with, sent_in}
 

@@ -7,8 +7,8 @@ use Rattle.protocol.specs.Range.{in_range}
 use Rattle.protocol.specs.Run.{events_of, state_after, answers_of, sent_by, run_answer, run, answers_after}
 use Rattle.protocol.specs.declared.Entry.{Entry}
 use Rattle.protocol.specs.declared.Event.{Event}
-use Rattle.protocol.specs.declared.Ran.{Ran}
-use Rattle.protocol.specs.declared.Started.{Started}
+use Rattle.protocol.specs.Run.{Ran}
+use Rattle.protocol.specs.Setup.{Started}
 use Rattle.protocol.specs.declared.State.{State}
 use Rattle.laws.specs.Shape.{Shaped}
 use Rattle.laws.specs.Enabled.{run-done, answers_written}

@@ -5,7 +5,7 @@ use Rattle.protocol.specs.State.{max_events, row_at, place_at, log_of}
 use Rattle.protocol.specs.Setup.{setup_of}
 use Rattle.protocol.specs.Run.{events_of, state_after, answers_of, sent_by}
 use Rattle.protocol.specs.declared.State.{State}
-use Rattle.protocol.specs.declared.Started.{Started}
+use Rattle.protocol.specs.Setup.{Started}
 use Rattle.text.specs.Written.{bytes}
 use Rattle.text.specs.Decimal.{digits}
 use Rattle.scenario.specs.Format.{Read, read_text, whole, entries_of}
