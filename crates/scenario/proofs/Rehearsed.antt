@@ -1,5 +1,5 @@
 -- What the code of a rehearsal does at each turn is what the report of a text says.
-use Rattle.std.proofs.Common.{◌≡◌, ℕ, ◌+◌, ◌*◌, ◌/◌, ◌<◌, ◌≤◌, true, false, List, [], ◌++◌, length, take, drop, Ok, Err, refl, sym, ap, ◌∙◌, arith, le-ltb, lt-ltb, ne_eqb}
+use Rattle.std.proofs.Common.{◌≡◌, ℕ, ◌+◌, ◌*◌, ◌/◌, ◌<◌, ◌≤◌, true, false, List, [], ◌++◌, length, take, drop, Result, Ok, Err, refl, sym, ap, ◌∙◌, arith, le-ltb, lt-ltb, ne_eqb}
 use lib.Seq.{sets, sets-eq, take-append_seam}
 use Rattle.protocol.specs.State.{max_sites, max_txns, max_events}
 use Rattle.protocol.specs.Setup.{setup_of}
@@ -9,7 +9,11 @@ use Rattle.protocol.specs.declared.Entry.{Entry}
 use Rattle.protocol.specs.declared.Event.{Event}
 use Rattle.protocol.specs.Run.{Ran}
 use Rattle.protocol.specs.Setup.{Started}
+use Rattle.protocol.specs.Refusals.{number_of, number_of-some, answer_of, sent_of, started}
+use Rattle.protocol.specs.declared.Answered.{Answered}
+use Rattle.protocol.specs.declared.Refusal.{Refusal}
 use Rattle.protocol.specs.declared.State.{State}
+use Rattle.std.specs.Result.{result_unwrap_or}
 use Rattle.laws.specs.Shape.{Shaped}
 use Rattle.laws.specs.Enabled.{run-done, answers_written}
 use Rattle.laws.specs.Ranged.{after_counts}
@@ -50,29 +54,40 @@ module _ (s : State) (numbers old : List ℕ) (h : Shaped s) (r : in_range s ≡
         rw (f, answers_written s events old goes, n) (take-append_seam (answers_of s events) (drop (length events) old)) in
         rw (first, ends, (after_counts s events).0)
 
+-- where a run is refused it has sent nothing
+pub sent_or_none : (o : Result ℕ Refusal) → result_unwrap_or o 0 ≡ sent_of o
+sent_or_none (Ok n) = refl
+sent_or_none (Err k) = refl
+
 -- ---- the outcome of what was read: b is the setup of the entries es
 
-module _ (m : Reading) (homes numbers : List ℕ) {es : List Entry} {b : Started} (d : es ≡ entries_of homes)
-    (e : b ≡ setup_of m.sites m.count es) where
-  -- what is to be printed
-  abbrev outcome : List ℕ
-  outcome = outcome_of (setup_of m.sites m.count (entries_of homes)) m.events numbers
+-- what is to be printed of it
+abbrev outcome : Reading → List ℕ → List ℕ → List ℕ
+outcome m homes numbers = outcome_of (setup_of m.sites m.count (entries_of homes)) m.events numbers
 
-  pub setup-refused : (b.answer ≡ 0 → ⊥) → line_of (bytes "setup=") b.answer ≡ outcome
+module _ (m : Reading) (homes numbers : List ℕ) {es : List Entry} {b : Answered (Unit {0})} (d : es ≡ entries_of homes)
+    (e : started b ≡ setup_of m.sites m.count es) where
+  pub setup-refused : (k : Refusal) → b.outcome ≡ Err k → line_of (bytes "setup=") (number_of k) ≡ outcome m homes numbers
   unfolding outcome_of
-  setup-refused n = rw (← d, ← e, ne_eqb b.answer 0 n)
+  setup-refused k h =
+      let a : answer_of b.outcome ≡ number_of k = ap answer_of h in
+      rw (← d, ← e, a, ne_eqb (number_of k) 0 (number_of-some k))
 
-  pub too_many : b.answer ≡ 0 → max_events < m.events → line_of (bytes "setup=") 31 ≡ outcome
-  unfolding outcome_of
-  too_many z h = rw (← d, ← e, z, lt-ltb max_events m.events h)
+  module _ (h : b.outcome ≡ Ok tt) where
+    z : answer_of b.outcome ≡ 0
+    z = ap answer_of h
 
-  pub runs : b.answer ≡ 0 → m.events ≤ max_events → run_lines b.state (take (7 * m.events) numbers) ≡ outcome
-  unfolding outcome_of
-  runs z h = rw (← d, ← e, z, le-ltb max_events m.events h)
+    pub too_many : max_events < m.events → line_of (bytes "setup=") 31 ≡ outcome m homes numbers
+    unfolding outcome_of
+    too_many g = rw (← d, ← e, z, lt-ltb max_events m.events g)
 
-  -- the state of a setup that was done
-  pub begun : b.answer ≡ 0 → (Shaped b.state) × (in_range b.state ≡ true)
-  begun z = rw e (setup_of_ranged m.sites m.count es (rw e at z))
+    pub runs : m.events ≤ max_events → run_lines b.state (take (7 * m.events) numbers) ≡ outcome m homes numbers
+    unfolding outcome_of
+    runs g = rw (← d, ← e, z, le-ltb max_events m.events g)
+
+    -- the state of a setup that was done
+    pub begun : (Shaped b.state) × (in_range b.state ≡ true)
+    begun = let n = setup_of_ranged m.sites m.count es (sym (ap (λ (x : Started). x.answer) e) ∙ z) in rw (← e) at n
 
 -- ---- the report of a text
 

@@ -82,6 +82,7 @@ impl Printer {
     }
 
     // The line of a refused setup.
+    #[tactic(auto, unfolding(text::specs::Written::bytes))]
     pub(crate) fn refused_setup(&mut self, refusal: Refusal)
         ensures { self.new ≡ printed self.old (line_of (bytes "setup=") (number_of refusal)) }
     {
