@@ -112,4 +112,3 @@ module _ (p : ℕ → Bool) where
   pub those_passed : (k w : ℕ) → w ≡ those k p → p k ≡ false → w ≡ those (k + 1) p
   unfolding those
   those_passed k w e t = rw (add-one k, t) e
-

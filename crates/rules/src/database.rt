@@ -75,8 +75,7 @@ impl View<'_> {
         let x = &self.txns[t.index()];
         (0..self.count)
             .filter(|&u| {
-                u != t.index()
-                    && conflicts_with(x, &self.txns[u], self.site, status_in(&r, u))
+                u != t.index() && conflicts_with(x, &self.txns[u], self.site, status_in(&r, u))
             })
             .fold(0, sets::with)
     }

@@ -1,6 +1,6 @@
 -- What the code of a rehearsal does at each turn is what the report of a text says.
 use Rattle.std.proofs.Common.{◌≡◌, ℕ, ◌+◌, ◌*◌, ◌/◌, ◌<◌, ◌≤◌, true, false, List, [], ◌++◌, length, take, drop, Result, Ok, Err, refl, sym, ap, ◌∙◌, arith, le-ltb, lt-ltb, ne_eqb}
-use lib.Seq.{sets, sets-eq, take-append_seam}
+use lib.Seq.{sets-eq, take-append_seam}
 use Rattle.protocol.specs.State.{max_sites, max_txns, max_events}
 use Rattle.protocol.specs.Setup.{setup_of}
 use Rattle.protocol.specs.Range.{in_range}
@@ -113,7 +113,7 @@ module _ (t old d : List ℕ) (e : d ≡ printed [] (report_of t)) where
   whole_report : d ≡ report_of t
   whole_report = e ∙ printed-all (report_of t) (report_fits t)
 
-  pub short : length old < length d → Reported (report_of t) old (Err (record { })) old
+  pub short : length old < length d → Reported (report_of t) old (Err (record {})) old
   unfolding reported reported_in
   short h = rw (← whole_report) (let b = lt-ltb (length old) (length d) h in record { result = rw b refl; bytes = rw b refl })
 

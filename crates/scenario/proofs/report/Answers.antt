@@ -1,8 +1,6 @@
 -- The whole report is printed, and copied where it has the room.
-use Rattle.std.proofs.Common.{ap, ◌∙◌}
+use Rattle.std.proofs.Common.{◌∙◌}
 use Rattle.scenario.proofs.Rehearsed.{short, copied}
-use Rattle.scenario.specs.Put.{printed}
-use Rattle.scenario.specs.Report.{report_of}
 use Rattle.scenario.proofs.report.Goals as goal
 
 pub returns-then-out-report : goal.returns-then-out-report

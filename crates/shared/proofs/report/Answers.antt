@@ -1,5 +1,5 @@
 -- The lent bytes have room for every report, so they begin with it.
-use Rattle.std.proofs.Common.{◌≡◌, ℕ, List, length, take, Result, Ok, refl, sym, ap, ◌∙◌, subst, arith, le-ltb}
+use Rattle.std.proofs.Common.{◌≡◌, ℕ, List, length, take, Result, refl, sym, ap, ◌∙◌, arith, le-ltb}
 use Rattle.std.proofs.Math.Seq.{sets-eq, take-append_seam}
 use Rattle.std.specs.Result.{result_unwrap_or}
 use Rattle.scenario.specs.Report.{report_room, report_of, reported, reported_in, Reported}

@@ -1,5 +1,5 @@
 -- The byte is stored where there is room for one more.
-use Rattle.std.proofs.Common.{◌≡◌, ℕ, List, [], ◌∷◌, ◌++◌, ◌-◌, length, take, sym, ap, ◌∙◌, arith, length-take-le, append-nil, add-one, take_all, take-suc-set}
+use Rattle.std.proofs.Common.{◌≡◌, [], ◌∷◌, ◌-◌, length, take, sym, ap, arith, length-take-le, append-nil, add-one, take_all, take-suc-set}
 use Rattle.scenario.specs.Put.{printed}
 use Rattle.scenario.specs.Report.{report_room}
 use Rattle.scenario.proofs.printer.Printer.byte.Goals as goal
