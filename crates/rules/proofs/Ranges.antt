@@ -104,7 +104,7 @@ times_of_list t (x ∷ l) = counted_on (x == t) x (filter (λ y. y == t) l) (tim
 -- ---- the first n elements of a list stand where they stood
 
 module _ {A : Type 0} (d : A) (n : ℕ) (l : List A) (h : length (take n l) ≡ n) where
-  pub all_of_first : (q : ℕ → A → Bool)
+  all_of_first : (q : ℕ → A → Bool)
       → all_below (length (take n l)) (λ t. q t (slice_index_or (take n l) t d)) ≡ all_below n (λ t. q t (slice_index_or l t d))
   all_of_first q =
       ap (λ k. all_below k (λ t. q t (slice_index_or (take n l) t d))) h
@@ -125,7 +125,7 @@ module _ (n : ℕ) (xs : List Txn) (h : length (take n xs) ≡ n) where
       rw h
       (all_same n _ _ (λ t g. all_same t _ _ (λ u k. rw (get_or-take n xs t no_txn g, get_or-take n xs u no_txn (omega (arith, g, k))))))
 
-  pub txns_of_first : (sites : ℕ)
+  txns_of_first : (sites : ℕ)
       → all_below (length (take n xs)) (λ t. txn_fine sites (length (take n xs)) (txn_in (take n xs) t))
       ≡ all_below n (λ t. txn_fine sites n (txn_in xs t))
   txns_of_first sites =
@@ -139,7 +139,7 @@ module _ (n : ℕ) (xs : List Txn) (h : length (take n xs) ≡ n) where
       (ap (λ b. statuses_fine n r && (channel_fine sites n p.channel && (versions_fine n p && ((within n p.queue && b) && log_fine n r p))))
       (all_same n _ _ (λ t g. ap (λ x. not (has p.queue t) || (not (x.home == i) && status_in r t == idle)) (get_or-take n xs t no_txn g))))
 
-  pub places_of_first : (s : State)
+  places_of_first : (s : State)
       → all_below s.sites (λ i. site_fine s.sites (length (take n xs)) (take n xs) i (row_at s i) (place_at s i))
       ≡ all_below s.sites (λ i. site_fine s.sites n xs i (row_at s i) (place_at s i))
   places_of_first s = all_same s.sites _ _ (λ i g. site_of_first s.sites i (row_at s i) (place_at s i))
