@@ -4,7 +4,6 @@ ghost use Rattle.protocol.specs.Range.{in_range};
 ghost use Rattle.protocol.specs.Run.{events_of, state_after, sent_by, answers_of};
 
 use crate::Here;
-use crate::asking::{asks_table, consulted, untold};
 use crate::channel::posted;
 use crate::events::event_at;
 use crate::slot::Slot;
@@ -41,16 +40,12 @@ pub(crate) fn performed(s: State, events: &[u32], answers: &mut [u8]) -> Ran
             place: state.places[i],
             txn: state.txns[t],
         };
-        let told = if asks_table(e, i, here) {
-            let view = View {
-                txns: &state.txns,
-                count: state.count as usize,
-                site: i,
-            };
-            consulted(e, &view, Slot::at(t), here)
-        } else {
-            untold(here)
+        let view = View {
+            txns: &state.txns,
+            count: state.count as usize,
+            site: i,
         };
+        let told = view.tells(e, Slot::at(t), here);
         let d = turn_of(e, state.sites, state.count, told, here);
         answers[k] = d.answer as u8;
         sent = sent + d.sent;

@@ -8,10 +8,10 @@ use Rattle.rules.proofs.EventList.{events_from}
 use Rattle.rules.proofs.Running.{Going, going_begun, going_turned, finished}
 use Rattle.rules.proofs.Sent.{all_posted, nothing-posted}
 use Rattle.rules.proofs.Shape.{shaped}
-use Rattle.rules.proofs.Turns.{told_nothing, returned, turn_taken, turn_few}
+use Rattle.rules.proofs.Turns.{returned, turn_taken, turn_few}
 use Rattle.rules.specs.Turn.{with_here, here_at, told_of, posted}
 use Rattle.sets.specs.Set.{is_empty}
-use Rattle.rules.proofs.course.performed.Goals.{then-asks_table, else-asks_table, then-not-is_empty, else-not-is_empty}
+use Rattle.rules.proofs.course.performed.Goals.{then-not-is_empty, else-not-is_empty}
 use Rattle.rules.proofs.course.performed.Goals as goal
 
 pub loop-k-init : goal.loop-k-init
@@ -57,9 +57,6 @@ invariant_of-view c = record { fits = count_below _ c.loop-k.invariant.2.ranged 
 pub at-requires : goal.at-requires
 at-requires c = txn_at_lem _ c.loop-k.invariant.2.ranged _ _ c.index-t.ensures
 
-pub consulted-told-requires : goal.consulted-told-requires
-consulted-told-requires c = sym c.asks_table.ensures ∙ c.if-asks_table.true
-
 pub turn_of-d-requires : goal.turn_of-d-requires
 turn_of-d-requires c =
     let f = c.loop-k.invariant.2.ranged in
@@ -70,11 +67,8 @@ overflow_cast-answers c =
     let s = c.loop-k.state in
     let i = c.index-i.result in
     let t = c.index-t.result in
-    let w : c.if-asks_table.told ≡ told_of c.event_at-e.result s.count s.txns i t (here_at s i t) =
-    elim c.if-asks_table.branch [
-      | then-asks_table w ↦ w.told-is ∙ w.consulted-told.ensures ∙ ap (λ u. told_of c.event_at-e.result s.count s.txns i u (here_at s i t)) w.at.ensures
-      | else-asks_table w ↦ w.told-is ∙ w.untold-told.ensures ∙ told_nothing _ _ _ _ _ _ (sym c.asks_table.ensures ∙ w.if-asks_table.false)
-    ] in
+    let w : c.tells-told.result ≡ told_of c.event_at-e.result s.count s.txns i t (here_at s i t) =
+    rw c.at.ensures at c.tells-told.ensures in
     omega (
       arith,
       (turn_few _ _ c.loop-k.invariant.2.ranged _ _ c.index-i.ensures c.index-t.ensures _ w _ c.turn_of-d.ensures).0,
@@ -89,11 +83,8 @@ overflow_add-sent c =
     let s = c.loop-k.state in
     let i = c.index-i.result in
     let t = c.index-t.result in
-    let w : c.if-asks_table.told ≡ told_of c.event_at-e.result s.count s.txns i t (here_at s i t) =
-    elim c.if-asks_table.branch [
-      | then-asks_table w ↦ w.told-is ∙ w.consulted-told.ensures ∙ ap (λ u. told_of c.event_at-e.result s.count s.txns i u (here_at s i t)) w.at.ensures
-      | else-asks_table w ↦ w.told-is ∙ w.untold-told.ensures ∙ told_nothing _ _ _ _ _ _ (sym c.asks_table.ensures ∙ w.if-asks_table.false)
-    ] in
+    let w : c.tells-told.result ≡ told_of c.event_at-e.result s.count s.txns i t (here_at s i t) =
+    rw c.at.ensures at c.tells-told.ensures in
     omega (
       arith,
       c.loop-k-test.true,
@@ -145,11 +136,8 @@ loop-k-preserved c =
     let d = c.turn_of-d.result in
     let k : c.loop-k.k < length a.events.now / 7 = c.loop-k-test.true in
     let here = with_here s i t d.here in
-    let w : c.if-asks_table.told ≡ told_of e s.count s.txns i t (here_at s i t) =
-    elim c.if-asks_table.branch [
-      | then-asks_table w ↦ w.told-is ∙ w.consulted-told.ensures ∙ ap (λ u. told_of c.event_at-e.result s.count s.txns i u (here_at s i t)) w.at.ensures
-      | else-asks_table w ↦ w.told-is ∙ w.untold-told.ensures ∙ told_nothing _ _ _ _ _ _ (sym c.asks_table.ensures ∙ w.if-asks_table.false)
-    ] in
+    let w : c.tells-told.result ≡ told_of e s.count s.txns i t (here_at s i t) =
+    rw c.at.ensures at c.tells-told.ensures in
     let new : c.if-not-is_empty.state ≡ posted i d.message d.about d.readies here =
     elim c.if-not-is_empty.branch [
       | then-not-is_empty w ↦ w.state-is ∙ all_posted i d.message d.about d.readies here _ w.posted.ensures
