@@ -2,15 +2,14 @@
 use Rattle.std.specs.Prelude.{◌==◌, nat_lt, Result, Ok, Err}
 use Prim.Native.Nat.{ℕ, ◌<◌}
 use mathlib.Core.Path.{◌≡◌, refl, sym, ap, ◌∙◌, subst}
-use mathlib.Core.Bool.{Bool, true, false, cond, ◌&&◌, ◌||◌, false≢true}
-use mathlib.Core.List.{List}
+use mathlib.Core.Bool.{Bool, true, false, cond}
 use lib.ListN.{set}
 use lib.Seq.{set-get_or}
 use borrow.Author.Tests.{lt-ltb, ltb-true, eq-eqb, ne_eqb}
 use Rattle.sets.specs.Set.{size}
 use Rattle.protocol.specs.Lists.{table_from}
 use Rattle.protocol.specs.State.{active, precommit, no_row, no_place, no_txn, row_at, place_at, txn_at, at_home, with_status, with_txn}
-use Rattle.protocol.specs.Database.{clash, ended, commit_here}
+use Rattle.protocol.specs.Database.{ended, commit_here}
 use Rattle.protocol.specs.Channel.{others, multicast}
 use Rattle.protocol.specs.Scan.{scan_all, scan, scan_leaves}
 use Rattle.protocol.specs.Figure.{silent, sending, only, effect}
@@ -21,7 +20,6 @@ use Rattle.protocol.specs.declared.Message.{Message}
 use Rattle.protocol.specs.declared.Message.TheVariants.{Remote, Ready, Commit, Abort}
 use Rattle.protocol.specs.declared.Action.{Action}
 use Rattle.protocol.specs.declared.Action.TheVariants.{Create, BeginOperation, EndOperation, BeginCommit, EndCommit, LocalAbort, Receive, ExecuteRemote, Discard}
-use Rattle.protocol.specs.declared.Txn.{Txn}
 use Rattle.protocol.specs.declared.Scan.{Scan}
 use Rattle.protocol.specs.declared.Event.{Event}
 use Rattle.protocol.specs.declared.State.{State}
@@ -30,7 +28,7 @@ use Rattle.protocol.specs.declared.Refusal.{Refusal}
 use Rattle.laws.specs.Enabled.{numbered}
 use Rattle.laws.specs.Tests.{Test, yes_so, not_so, test, Same, same, other, same?}
 use Rattle.rules.specs.Refusal.{misplaced_by}
-use Rattle.rules.specs.Turn.{here_at, with_here, posted, after_turn, index_of, here_status, here_txn, quiet, telling, scan_of, turn_by, asks_table, untold, told_of, turn_of, turned}
+use Rattle.rules.specs.Turn.{here_at, with_here, posted, after_turn, index_of, here_status, here_txn, quiet, telling, scan_of, turn_by, told_of, turn_of, turned}
 use Rattle.rules.specs.declared.Here.{Here}
 use Rattle.rules.specs.declared.Told.{Told}
 use Rattle.rules.specs.declared.Turn.{Turn}
@@ -97,38 +95,6 @@ module _ (s : State) (i t : ℕ) where
   done_by (Receive Abort) = left-quiet _ ∙ rw txns_same
   done_by ExecuteRemote = rw txns_same
   done_by (Discard m) = left-quiet _ ∙ rw (rows_same, txns_same)
-
--- ---- what the table tells
-
-module _ (e : Event) (n : ℕ) (xs : List Txn) (i t : ℕ) (h : Here) where
-  -- an event that does not ask
-  pub told_nothing : asks_table e i h ≡ false → untold h ≡ told_of e n xs i t h
-  unfolding asks_table told_of
-  told_nothing f = go (e.action == 11) (e.action == 3) (h.txn.home == i) f
-    where
-      go : (a b c : Bool) → (a || (b && c)) ≡ false
-          → untold h ≡ record { clash = b && (c && clash n xs i h.row t); scan = cond a (scan_all n xs i (scan_of h)) (scan_of h) }
-      go true b c f = absurd (false≢true (sym f))
-      go false true true f = absurd (false≢true (sym f))
-      go false true false f = refl
-      go false false c f = refl
-
-  -- one that scans, and one that ends an operation at home
-  pub told_scan_only : e.action ≡ 11 → record { clash = false; scan = scan_all n xs i (scan_of h) } ≡ told_of e n xs i t h
-  unfolding told_of
-  told_scan_only f = rw f
-
-  pub told_clash_only : (e.action ≡ 11 → ⊥) → asks_table e i h ≡ true
-      → record { clash = clash n xs i h.row t; scan = scan_of h } ≡ told_of e n xs i t h
-  unfolding asks_table told_of
-  told_clash_only d f = rw (ne_eqb _ _ d) (go (e.action == 3) (h.txn.home == i) (rw (ne_eqb _ _ d) at f))
-    where
-      go : (b c : Bool) → b && c ≡ true
-          → ◌≡◌ {A = Told} (record { clash = clash n xs i h.row t; scan = scan_of h })
-          (record { clash = b && (c && clash n xs i h.row t); scan = scan_of h })
-      go true true f = refl
-      go true false f = absurd (false≢true f)
-      go false c f = absurd (false≢true f)
 
 -- ---- the turn of an event
 

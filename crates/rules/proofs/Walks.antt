@@ -42,10 +42,12 @@ module _ (p : ℕ → Bool) where
       → ((xs : List ℕ) × (o : Option ℕ) × (e : F) × YieldsThen nat_range_steps (record { start = 0; end = n }) xs o u
       × FoldsTo (λ a x b. Called g a (x, tt) false b) f xs e
       × MatchOption o (r ≡ false) (λ x. (r ≡ true) × ((q : F) × Called g e (x, tt) true q)))
-      → ((x : ℕ) (b : Bool) (q : F) → Called g f (x, tt) b q → (q ≡ f) × (b ≡ p x))
+      → ((x : ℕ) (b : Bool) (q : F) → Called g f (x, tt) b q → (b ≡ p x) × (q ≡ f))
       → r ≡ some_below n p
   some_found n r ran tested =
-      any_from_yields_List p _ _ r ran (YieldsList-from_range 0 n n refl (omega arith)) tested ∙ any_below n
+      any_from_yields_List p _ _ r ran (YieldsList-from_range 0 n n refl (omega arith))
+      (λ x b q k. ((tested x b q k).1, (tested x b q k).0))
+      ∙ any_below n
 
   put_last : (n m : ℕ) → n < 32 → fold with m (filter p (n ∷ [])) ≡ cond (p n) (bit_or m (2 ^ n)) m
   unfolding with_in
@@ -71,10 +73,12 @@ module _ (p : ℕ → Bool) where
       → ((xs : List ℕ) × (q : G) × Drains (filter_steps nat_range_steps g) s xs
       × FoldsTo {P = G × ℕ} (λ a x b. Called h a.0 (a.1, (x, tt)) b.1 b.0) (e, 0) xs (q, m))
       → filter_source s ≡ record { start = 0; end = n } → filter_callee s ≡ f
-      → ((x : ℕ) (b : Bool) (q : F) → CalledAt g f x b q → (q ≡ f) × (b ≡ p x))
+      → ((x : ℕ) (b : Bool) (q : F) → CalledAt g f x b q → (b ≡ p x) × (q ≡ f))
       → ((a x b : ℕ) (q : G) → Called h e (a, (x, tt)) b q → (q ≡ e) × (b ≡ with a x))
       → m ≡ those n p
   those_found n m small ran source callee tested added =
       fold_from_yields_List _ with 0 m ran
-      (YieldsList-from_filter _ p (YieldsList-from_range 0 n n source (omega arith)) callee tested) added
+      (YieldsList-from_filter _ p (YieldsList-from_range 0 n n source (omega arith)) callee
+      (λ x b q k. ((tested x b q k).1, (tested x b q k).0)))
+      added
       ∙ fold_below n small

@@ -1,7 +1,7 @@
 -- An event by the parts of the state that it reads and changes: the statuses at its site, what else belongs to the site,
 -- its transaction, and the messages that it sends. The table of transactions is read by a lock clash and by a scan alone.
 -- That the parts, put back, make the state that document 01 has is shown beside the proofs.
-use Rattle.std.specs.Prelude.{ℕ, ◌+◌, ◌*◌, ◌<◌, Bool, false, true, cond, ◌&&◌, ◌||◌, List, Result, Ok, Err, ◌==◌, nat_lt}
+use Rattle.std.specs.Prelude.{ℕ, ◌+◌, ◌*◌, ◌<◌, false, true, cond, ◌&&◌, List, Result, Ok, Err, ◌==◌, nat_lt}
 use Rattle.sets.specs.Set.{none, with, without, all_but, size}
 use Rattle.protocol.specs.State.{active, blocked, precommit, committed, aborted, row_at, place_at, txn_at, version_in, row_with, with_row, with_place, with_txn, with_queue, with_pending, with_missing}
 use Rattle.protocol.specs.Database.{clash, ended, woken, stored}
@@ -131,14 +131,6 @@ turn_by LocalAbort h to c i t = aborts_here h t
 turn_by (Receive m) h to c i t = receives m h t
 turn_by ExecuteRemote h to c i t = scan_turn h to c
 turn_by (Discard m) h to c i t = discards m h t
-
--- an event asks the table of transactions: one that scans, and an end of operation at home, which is site i
-unfoldable pub asks_table : Event → ℕ → Here → Bool
-asks_table e i h = e.action == 11 || (e.action == 3 && h.txn.home == i)
-
--- what an event is told that does not ask it
-abbrev pub untold : Here → Told
-untold h = record { clash = false; scan = scan_of h }
 
 -- what the n transactions xs of the table tell an event at site i of transaction t
 unfoldable pub told_of : Event → ℕ → List Txn → ℕ → ℕ → Here → Told

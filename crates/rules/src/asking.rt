@@ -1,8 +1,8 @@
 // What the table of transactions tells an event. Few events ask it.
-#![tactic(auto, unfolding(crate::specs::Turn::asks_table))]
+#![tactic(auto, unfolding(crate::specs::Turn::told_of))]
 
-ghost use Rattle.std.specs.Prelude.{◌≡◌, true};
-ghost use Rattle.rules.specs.Turn.{scan_of, asks_table, untold, told_of};
+ghost use Rattle.std.specs.Prelude.{◌≡◌};
+ghost use Rattle.rules.specs.Turn.{scan_of, told_of};
 
 use crate::slot::Slot;
 use crate::view::View;
@@ -27,38 +27,20 @@ fn begun(h: Here) -> Scan
     }
 }
 
-// Does the event ask the table?
-pub(crate) fn asks_table(e: Event, i: usize, h: Here) -> bool
-    ensures { result ≡ asks_table e i h }
-{
-    e.action == EXECUTE_REMOTE || (e.action == END_OPERATION && h.txn.home as usize == i)
-}
-
-// What an event is told that does not ask it.
-pub(crate) fn untold(h: Here) -> Told
-    ensures { result ≡ untold h }
-{
-    Told {
-        clash: false,
-        scan: begun(h),
-    }
-}
-
-// What the table tells an event that asks: a scan, or whether its end of operation clashes.
-pub(crate) fn consulted(e: Event, view: &View<'_>, t: Slot, h: Here) -> Told
-    requires { asks_table e view.now.site h ≡ true }
-    ensures { result ≡ told_of e view.now.count view.now.txns.now view.now.site t h }
-{
-    let told = untold(h);
-    if e.action == EXECUTE_REMOTE {
+impl View<'_> {
+    // What the table tells an event at the site of transaction t.
+    pub(crate) fn tells(&self, e: Event, t: Slot, h: Here) -> Told
+        ensures { result ≡ told_of e self.now.count self.now.txns.now self.now.site t h }
+    {
         Told {
-            scan: view.scan_all(told.scan),
-            ..told
-        }
-    } else {
-        Told {
-            clash: view.clash(h.row, t),
-            ..told
+            clash: e.action == END_OPERATION
+                && h.txn.home as usize == self.site
+                && self.clash(h.row, t),
+            scan: if e.action == EXECUTE_REMOTE {
+                self.scan_all(begun(h))
+            } else {
+                begun(h)
+            },
         }
     }
 }

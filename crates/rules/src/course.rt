@@ -4,34 +4,15 @@ ghost use Rattle.protocol.specs.Range.{in_range};
 ghost use Rattle.protocol.specs.Answer.{step};
 ghost use Rattle.protocol.specs.Run.{events_of, state_after, sent_by, answers_of};
 ghost use Rattle.protocol.specs.Refusals.{answer_of, sent_of, ran};
-ghost use Rattle.rules.specs.Turn.{after_turn, told_of};
+ghost use Rattle.rules.specs.Turn.{after_turn};
 
-use crate::asking::{asks_table, consulted, untold};
 use crate::channel::posted;
 use crate::events::event_in;
 use crate::slot::Slot;
 use crate::stepping::{index, turn_of};
 use crate::view::View;
-use crate::{Here, Told, Turn};
+use crate::{Here, Turn};
 use protocol::{Answered, Event, Refusal, State};
-
-// What the table of transactions tells an event at site i of transaction t, where h is what stands there.
-#[tactic(auto, using(crate::proofs::Turns::told_nothing))]
-fn told(s: &State, e: Event, i: usize, t: Slot, h: Here) -> Told
-    requires { s.now.count ≤ 32 }
-    ensures { result ≡ told_of e s.now.count s.now.txns i t h }
-{
-    if asks_table(e, i, h) {
-        let view = View {
-            txns: &s.txns,
-            count: s.count as usize,
-            site: i,
-        };
-        consulted(e, &view, t, h)
-    } else {
-        untold(h)
-    }
-}
 
 // Puts back what a turn at site i of transaction t leaves there, and posts its messages.
 fn leave(s: &mut State, i: usize, t: Slot, d: Turn)
@@ -59,7 +40,12 @@ pub(crate) fn taken(s: &mut State, e: Event) -> Result<u32, Refusal>
         place: s.places[i],
         txn: s.txns[t.index()],
     };
-    let told = told(s, e, i, t, here);
+    let view = View {
+        txns: &s.txns,
+        count: s.count as usize,
+        site: i,
+    };
+    let told = view.tells(e, t, here);
     let d = turn_of(e, s.sites, s.count, told, here, i, t)?;
     leave(s, i, t, d);
     Ok(d.sent)
