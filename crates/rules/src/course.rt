@@ -32,13 +32,11 @@ fn leave(s: &mut State, i: usize, t: Slot, d: Turn)
     requires { i < 8 }
     ensures { s.new ≡ after_turn s.old i t d }
 {
-    let h = d.here;
-    s.rows[i] = h.row;
-    s.places[i] = h.place;
-    s.txns[t.index()] = h.txn;
+    s.rows[i] = d.here.row;
+    s.places[i] = d.here.place;
+    s.txns[t.index()] = d.here.txn;
     if !sets::is_empty(sets::union(d.about, d.readies)) {
-        let places = posted(i, d.message, d.about, d.readies, s.sites, s.txns, s.places);
-        s.places = places;
+        s.places = posted(i, d.message, d.about, d.readies, s.sites, s.txns, s.places);
     }
 }
 

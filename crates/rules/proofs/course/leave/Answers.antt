@@ -6,7 +6,7 @@ use Rattle.rules.proofs.course.leave.Goals as goal
 
 pub returns-then-not-is_empty : goal.returns-then-not-is_empty
 returns-then-not-is_empty c =
-    rw (← c.index.ensures.is) (all_posted c.args.i c.args.d.message c.args.d.about c.args.d.readies _ _ c.posted-places.ensures)
+    rw (← c.index.ensures.is) (all_posted c.args.i c.args.d.message c.args.d.about c.args.d.readies _ _ c.posted-s.ensures)
 
 pub returns-else-not-is_empty : goal.returns-else-not-is_empty
 returns-else-not-is_empty c =
