@@ -8,6 +8,7 @@ use crate::Here;
 use crate::channel::lies;
 use crate::row::status_in;
 use crate::slot::Slot;
+use protocol::Refusal::{LockClash, NoMessage, NoScan, WrongMissing, WrongStatus};
 use protocol::{
     ABORTED, ACTIVE, Action, BLOCKED, COMMITTED, Event, IDLE, Message, PRE_COMMIT, Refusal, START,
 };
@@ -155,17 +156,14 @@ fn receive_refusal(m: Message, h: Here, t: Slot) -> Result<(), Refusal>
     ensures { answer_of result ≡ receive_refusal m h t }
 {
     let v = status_in(&h.row, t.index());
-    let x = h.txn;
-    let p = h.place;
-    let c = p.channel;
-    let there = demand(lies(m, t, c), Refusal::NoMessage);
+    let there = demand(lies(m, t, h.place.channel), NoMessage);
     match m {
-        Message::Remote => demand(v == IDLE, Refusal::WrongStatus).and(there),
-        Message::Ready(_) => demand(v == PRE_COMMIT, Refusal::WrongStatus)
-            .and(demand(!sets::is_empty(x.missing), Refusal::WrongMissing))
+        Message::Remote => demand(v == IDLE, WrongStatus).and(there),
+        Message::Ready(_) => demand(v == PRE_COMMIT, WrongStatus)
+            .and(demand(!sets::is_empty(h.txn.missing), WrongMissing))
             .and(there),
-        Message::Commit => demand(v == PRE_COMMIT, Refusal::WrongStatus).and(there),
-        Message::Abort => demand(v != COMMITTED && v != ABORTED, Refusal::WrongStatus).and(there),
+        Message::Commit => demand(v == PRE_COMMIT, WrongStatus).and(there),
+        Message::Abort => demand(v != COMMITTED && v != ABORTED, WrongStatus).and(there),
     }
 }
 
@@ -174,28 +172,21 @@ pub(crate) fn refusal(a: Action, clash: bool, t: Slot, h: Here) -> Result<(), Re
     ensures { answer_of result ≡ refusal_of a clash t h }
 {
     let v = status_in(&h.row, t.index());
-    let x = h.txn;
-    let p = h.place;
     match a {
-        Action::Create => demand(v == START, Refusal::WrongStatus),
-        Action::BeginOperation { .. } => demand(v == ACTIVE, Refusal::WrongStatus),
-        Action::EndOperation => {
-            demand(v == BLOCKED, Refusal::WrongStatus).and(demand(!clash, Refusal::LockClash))
-        }
-        Action::BeginCommit => demand(v == ACTIVE, Refusal::WrongStatus),
-        Action::EndCommit => demand(v == PRE_COMMIT, Refusal::WrongStatus).and(demand(
-            sets::is_empty(x.missing),
-            Refusal::WrongMissing,
+        Action::Create => demand(v == START, WrongStatus),
+        Action::BeginOperation { .. } => demand(v == ACTIVE, WrongStatus),
+        Action::EndOperation => demand(v == BLOCKED, WrongStatus).and(demand(!clash, LockClash)),
+        Action::BeginCommit => demand(v == ACTIVE, WrongStatus),
+        Action::EndCommit => demand(v == PRE_COMMIT, WrongStatus).and(demand(
+            sets::is_empty(h.txn.missing),
+            WrongMissing,
         )),
-        Action::LocalAbort => demand(v == BLOCKED, Refusal::WrongStatus),
+        Action::LocalAbort => demand(v == BLOCKED, WrongStatus),
         Action::Receive(m) => receive_refusal(m, h, t),
-        Action::ExecuteRemote => demand(!sets::is_empty(p.queue) && p.remove, Refusal::NoScan),
-        Action::Discard(m) => {
-            let c = p.channel;
-            demand(v == ABORTED, Refusal::WrongStatus).and(demand(
-                lies(m, t, c),
-                Refusal::NoMessage,
-            ))
-        }
+        Action::ExecuteRemote => demand(!sets::is_empty(h.place.queue) && h.place.remove, NoScan),
+        Action::Discard(m) => demand(v == ABORTED, WrongStatus).and(demand(
+            lies(m, t, h.place.channel),
+            NoMessage,
+        )),
     }
 }

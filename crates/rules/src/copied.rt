@@ -1,5 +1,5 @@
 // Below setup: the empty state, an entry of the lent table copied into a state, and the state judged.
-ghost use Rattle.std.specs.Prelude.{◌≡◌, ◌≤◌};
+ghost use Rattle.std.specs.Prelude.{◌≡◌};
 ghost use Rattle.protocol.specs.State.{empty_state, txn_in};
 ghost use Rattle.protocol.specs.Refusals.{answer_of, started};
 ghost use Rattle.rules.specs.Copied.{from_entry, started_row, started_rows, setup_refusal, judged_of};

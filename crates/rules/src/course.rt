@@ -3,7 +3,7 @@ ghost use Rattle.std.specs.Prelude.{◌≡◌, true, ◌++◌, ◌/◌, ◌<◌,
 ghost use Rattle.protocol.specs.Range.{in_range};
 ghost use Rattle.protocol.specs.Answer.{step};
 ghost use Rattle.protocol.specs.Run.{events_of, state_after, sent_by, answers_of};
-ghost use Rattle.protocol.specs.Refusals.{answer_of, sent_of, ran};
+ghost use Rattle.protocol.specs.Refusals.{stepped, ran};
 ghost use Rattle.rules.specs.Turn.{after_turn};
 
 use crate::channel::posted;
@@ -19,10 +19,9 @@ fn leave(s: &mut State, i: usize, t: Slot, d: Turn)
     requires { i < 8 }
     ensures { s.new ≡ after_turn s.old i t d }
 {
-    let h = d.here;
-    s.rows[i] = h.row;
-    s.places[i] = h.place;
-    s.txns[t.index()] = h.txn;
+    s.rows[i] = d.here.row;
+    s.places[i] = d.here.place;
+    s.txns[t.index()] = d.here.txn;
     if !sets::is_empty(sets::union(d.about, d.readies)) {
         posted(&d, i, s.sites, &s.txns, &mut s.places);
     }
@@ -31,7 +30,7 @@ fn leave(s: &mut State, i: usize, t: Slot, d: Turn)
 // Takes one event in a state in range, and says how many messages it sent. A refused event changes nothing.
 pub(crate) fn taken(s: &mut State, e: Event) -> Result<u32, Refusal>
     requires { in_range s.old ≡ true }
-    ensures { record { answer = answer_of result; sent = sent_of result; state = s.new } ≡ step s.old e }
+    ensures { stepped (record { outcome = result; state = s.new }) ≡ step s.old e }
 {
     let i = index(e.site, s.sites);
     let t = Slot::at(index(e.txn, s.count));

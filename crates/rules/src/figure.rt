@@ -16,8 +16,10 @@ use protocol::{
 fn with_status(h: Here, t: Slot, v: u8) -> Here
     ensures { result ≡ here_status h t v }
 {
-    let row = row_with(h.row, t, v);
-    Here { row, ..h }
+    Here {
+        row: row_with(h.row, t, v),
+        ..h
+    }
 }
 
 // What an event leaves that sends nothing.
@@ -65,9 +67,8 @@ fn end_operation(h: Here, i: usize, t: Slot) -> Turn
     requires { few_versions h }
     ensures { result ≡ ends_operation h i t }
 {
-    let x = h.txn;
-    if x.home as usize == i {
-        let txn = ended(x, h.place);
+    if h.txn.home as usize == i {
+        let txn = ended(h.txn, h.place);
         quiet(Here {
             txn,
             ..with_status(h, t, ACTIVE)
@@ -96,8 +97,7 @@ fn begin_commit(h: Here, others: u32, t: Slot) -> Turn
 fn end_commit(h: Here, others: u32, t: Slot) -> Turn
     ensures { result ≡ ends_commit h others t }
 {
-    let x = h.txn;
-    let place = stored(h.place, t, x.writes);
+    let place = stored(h.place, t, h.txn.writes);
     let here = Here {
         place,
         ..with_status(h, t, COMMITTED)
@@ -137,10 +137,9 @@ fn receive_ready(h: Here, t: Slot, from: u32) -> Turn
     ensures { result ≡ receives (Message.Ready from) h t }
 {
     let place = received(Message::Ready(from), t, h.place);
-    let x = h.txn;
     let txn = Txn {
-        missing: sets::without(x.missing, from as usize),
-        ..x
+        missing: sets::without(h.txn.missing, from as usize),
+        ..h.txn
     };
     quiet(Here { place, txn, ..h })
 }
@@ -149,8 +148,7 @@ fn receive_ready(h: Here, t: Slot, from: u32) -> Turn
 fn receive_commit(h: Here, t: Slot) -> Turn
     ensures { result ≡ receives Message.Commit h t }
 {
-    let x = h.txn;
-    let place = stored(received(Message::Commit, t, h.place), t, x.writes);
+    let place = stored(received(Message::Commit, t, h.place), t, h.txn.writes);
     quiet(Here {
         place,
         ..with_status(h, t, COMMITTED)
@@ -181,10 +179,13 @@ fn scan_leaves(h: Here, others: u32, c: Scan) -> Turn
         remove: false,
         ..h.place
     };
-    let row = c.row;
     Turn {
         sent: sets::count(c.aborts) * sets::count(others) + sets::count(c.readies),
-        here: Here { row, place, ..h },
+        here: Here {
+            row: c.row,
+            place,
+            ..h
+        },
         message: Message::Abort,
         about: c.aborts,
         readies: c.readies,
@@ -212,6 +213,7 @@ fn receive(m: Message, h: Here, t: Slot) -> Turn
 }
 
 // What the action does at site i to transaction t, where `scan` is the scan of the site as it ends.
+// That versions are few stays a clause, here and at two more: a `Here` with it would owe its proof wherever a place changes.
 pub(crate) fn effect(a: Action, h: Here, others: u32, scan: Scan, i: usize, t: Slot) -> Turn
     requires { few_versions h }
     ensures { result ≡ turn_by a h others scan i t }

@@ -30,9 +30,8 @@ pub(crate) fn turn_of(
     ensures { turned result ≡ turn_of e sites count told h i t }
 {
     let a = asked(e)?;
-    let x = h.txn;
-    misplaced(sites, count, e, x.home == e.site)?;
+    misplaced(sites, count, e, h.txn.home == e.site)?;
     refusal(a, told.clash, t, h)?;
-    let scan = told.scan;
-    Ok(effect(a, h, sets::all_but(sites as usize, i), scan, i, t))
+    let others = sets::all_but(sites as usize, i);
+    Ok(effect(a, h, others, told.scan, i, t))
 }
