@@ -105,8 +105,8 @@ struct Cursor<'a> {
 impl<'a> Cursor<'a> {
     // The wanted line is there, and another is wanted, of whose kind `done` have been.
     #[tactic(auto, unfolding(crate::specs::Format::moved))]
-    fn moved(self, want: Want, done: u64) -> Reading
-        ensures { result ≡ moved self.entry.m want done }
+    fn moved(&self, want: Want, done: u64) -> Reading
+        ensures { result ≡ moved self.now.m want done }
     {
         Reading {
             want,
@@ -118,8 +118,8 @@ impl<'a> Cursor<'a> {
 
     // The number of sites.
     #[tactic(auto, unfolding(crate::specs::Format::sites_line, crate::specs::Format::moved))]
-    fn sites_line(self, n: Option<u32>) -> Reading
-        ensures { result ≡ sites_line self.entry.m n }
+    fn sites_line(&self, n: Option<u32>) -> Reading
+        ensures { result ≡ sites_line self.now.m n }
     {
         let Some(sites) = n else {
             return faulted(self.m);
@@ -132,8 +132,8 @@ impl<'a> Cursor<'a> {
 
     // The number of transactions.
     #[tactic(auto, unfolding(crate::specs::Format::count_line, crate::specs::Format::moved))]
-    fn count_line(self, n: Option<u32>) -> Reading
-        ensures { result ≡ count_line self.entry.m n }
+    fn count_line(&self, n: Option<u32>) -> Reading
+        ensures { result ≡ count_line self.now.m n }
     {
         let Some(count) = n else {
             return faulted(self.m);
@@ -146,8 +146,8 @@ impl<'a> Cursor<'a> {
 
     // The home of a transaction.
     #[tactic(auto, unfolding(crate::specs::Format::home_line))]
-    fn home_line(self, n: Option<u32>) -> Reading
-        ensures { result ≡ home_line self.entry.m n }
+    fn home_line(&self, n: Option<u32>) -> Reading
+        ensures { result ≡ home_line self.now.m n }
     {
         match n {
             Some(_) => self.moved(Want::Priority, self.m.done),
@@ -157,8 +157,8 @@ impl<'a> Cursor<'a> {
 
     // The priority of a transaction, after which the next has its home, or the events follow.
     #[tactic(auto, unfolding(crate::specs::Format::priority_line))]
-    fn priority_line(self, n: Option<u32>) -> Reading
-        ensures { result ≡ priority_line self.entry.m n }
+    fn priority_line(&self, n: Option<u32>) -> Reading
+        ensures { result ≡ priority_line self.now.m n }
     {
         let done = self.m.done + 1;
         match n {
@@ -169,8 +169,8 @@ impl<'a> Cursor<'a> {
 
     // The number of events.
     #[tactic(auto, unfolding(crate::specs::Format::events_line, crate::specs::Format::moved))]
-    fn events_line(self, n: Option<u32>) -> Reading
-        ensures { result ≡ events_line self.entry.m n }
+    fn events_line(&self, n: Option<u32>) -> Reading
+        ensures { result ≡ events_line self.now.m n }
     {
         let Some(events) = n else {
             return faulted(self.m);
@@ -183,8 +183,8 @@ impl<'a> Cursor<'a> {
 
     // An event.
     #[tactic(auto, unfolding(crate::specs::Format::event_line))]
-    fn event_line(self, f: Option<[u32; 7]>) -> Reading
-        ensures { result ≡ event_line self.entry.m f }
+    fn event_line(&self, f: Option<[u32; 7]>) -> Reading
+        ensures { result ≡ event_line self.now.m f }
     {
         let done = self.m.done + 1;
         match f {
@@ -194,16 +194,16 @@ impl<'a> Cursor<'a> {
     }
 
     // Where the line ends: before its line feed, or where the text ends.
-    fn line_feed(self) -> usize
-        ensures { (result ≡ min self.entry.at (length self.entry.text.now) + before 10 (drop self.entry.at self.entry.text.now)) × (result ≤ length self.entry.text.now) }
+    fn line_feed(&self) -> usize
+        ensures { (result ≡ min self.now.at (length self.now.text.now) + before 10 (drop self.now.at self.now.text.now)) × (result ≤ length self.now.text.now) }
     {
         text::upto(self.text, self.at, b'\n')
     }
 
     // The line as it is read, by its parts, and the place after it. What no line feed ends says nothing.
-    fn by_parts<T, F: Fn(&[u8]) -> Option<T>>(self, read: F) -> Ahead<Option<T>>
+    fn by_parts<T, F: Fn(&[u8]) -> Option<T>>(&self, read: F) -> Ahead<Option<T>>
         requires { F.IsAlwaysCallable read }
-        ensures { IsAhead self.entry.text.now self.entry.at result.next (λ l. FnReturnsAt F.Fn read l result.value) (result.value ≡ None) }
+        ensures { IsAhead self.now.text.now self.now.at result.next (λ l. FnReturnsAt F.Fn read l result.value) (result.value ≡ None) }
     {
         let e = self.line_feed();
         if e == self.text.len() {
@@ -219,16 +219,16 @@ impl<'a> Cursor<'a> {
     }
 
     // The place after the line.
-    fn after_line(self) -> usize
-        ensures { AnyAhead self.entry.text.now self.entry.at result }
+    fn after_line(&self) -> usize
+        ensures { AnyAhead self.now.text.now self.now.at result }
     {
         self.by_parts(|_| Some(())).next
     }
 
     // The value of the line.
-    fn value_of(self, key: &[u8]) -> Ahead<Option<u32>>
+    fn value_of(&self, key: &[u8]) -> Ahead<Option<u32>>
         requires { before 10 key.now ≡ length key.now }
-        ensures { LineSays self.entry.text.now self.entry.at (value_in key.now) result.value result.next }
+        ensures { LineSays self.now.text.now self.now.at (value_in key.now) result.value result.next }
     {
         if text::starts(&self.text[self.at..], key) {
             if let Some(f) = number_at(self.text, self.at + key.len(), b'\n') {
@@ -239,8 +239,8 @@ impl<'a> Cursor<'a> {
     }
 
     // The event of the line.
-    fn event_at(self) -> Ahead<Option<[u32; 7]>>
-        ensures { LineSays self.entry.text.now self.entry.at event_of result.value result.next }
+    fn event_at(&self) -> Ahead<Option<[u32; 7]>>
+        ensures { LineSays self.now.text.now self.now.at event_of result.value result.next }
     {
         if text::starts(&self.text[self.at..], b"event=") {
             if let Some(f) = seven_at(self.text, self.at + 6) {
@@ -252,8 +252,8 @@ impl<'a> Cursor<'a> {
 
     // Where the line takes the reading to, and the place after the line.
     #[tactic(auto, unfolding(text::specs::Line::before))]
-    fn next_line(self, homes: &mut [u32], numbers: &mut [u32]) -> Ahead<Reading>
-        ensures { LineAhead self.entry.text.now self.entry.at self.entry.m homes.old numbers.old result.value homes.new numbers.new result.next }
+    fn next_line(&self, homes: &mut [u32], numbers: &mut [u32]) -> Ahead<Reading>
+        ensures { LineAhead self.now.text.now self.now.at self.now.m homes.old numbers.old result.value homes.new numbers.new result.next }
     {
         let m = self.m;
         match m.want {

@@ -10,39 +10,39 @@ use Rattle.scenario.proofs.reader.Cursor.next_line.Goals as goal
 pub returns-in-Sites : goal.returns-in-Sites
 unfolding next_by homes_by numbers_by bytes sites_line
 returns-in-Sites c =
-    line_turns _ _ _ _ _ _ _ _ _ Sites (value_of (bytes "sites=")) _ (sites_line c.args.self.m) (λ n. c.args.homes.now) (λ n. c.args.numbers.now)
+    line_turns _ _ _ _ _ _ _ _ _ Sites (value_of (bytes "sites=")) _ (sites_line c.args.self.now.m) (λ n. c.args.homes.now) (λ n. c.args.numbers.now)
     c.in-Sites.is (λ l. (refl, refl, refl)) (refl, refl, refl) c.value_of-next.ensures (c.sites_line.ensures, refl, refl)
 
 pub returns-in-Count : goal.returns-in-Count
 unfolding next_by homes_by numbers_by bytes count_line
 returns-in-Count c =
-    line_turns _ _ _ _ _ _ _ _ _ Count (value_of (bytes "transactions=")) _ (count_line c.args.self.m) (λ n. c.args.homes.now) (λ n. c.args.numbers.now)
+    line_turns _ _ _ _ _ _ _ _ _ Count (value_of (bytes "transactions=")) _ (count_line c.args.self.now.m) (λ n. c.args.homes.now) (λ n. c.args.numbers.now)
     c.in-Count.is (λ l. (refl, refl, refl)) (refl, refl, refl) c.value_of-next-in-Count.ensures (c.count_line.ensures, refl, refl)
 
 pub returns-in-Home : goal.returns-in-Home
 unfolding next_by homes_by numbers_by bytes home_line kept
 returns-in-Home c =
-    line_turns _ _ _ _ _ _ _ _ _ Home (value_of (bytes "master=")) _ (home_line c.args.self.m) (kept c.args.homes.now (2 * c.args.self.m.done)) (λ n. c.args.numbers.now)
+    line_turns _ _ _ _ _ _ _ _ _ Home (value_of (bytes "master=")) _ (home_line c.args.self.now.m) (kept c.args.homes.now (2 * c.args.self.now.m.done)) (λ n. c.args.numbers.now)
     c.in-Home.is (λ l. (refl, refl, refl)) (refl, refl, refl) c.value_of-next-in-Home.ensures
     (c.home_line.ensures, rw (c.keep.ensures, add-zero), refl)
 
 pub returns-in-Priority : goal.returns-in-Priority
 unfolding next_by homes_by numbers_by bytes priority_line kept
 returns-in-Priority c =
-    line_turns _ _ _ _ _ _ _ _ _ Priority (value_of (bytes "priority=")) _ (priority_line c.args.self.m) (kept c.args.homes.now (2 * c.args.self.m.done + 1)) (λ n. c.args.numbers.now)
+    line_turns _ _ _ _ _ _ _ _ _ Priority (value_of (bytes "priority=")) _ (priority_line c.args.self.now.m) (kept c.args.homes.now (2 * c.args.self.now.m.done + 1)) (λ n. c.args.numbers.now)
     c.in-Priority.is (λ l. (refl, refl, refl)) (refl, refl, refl) c.value_of-next-in-Priority.ensures
     (c.priority_line.ensures, c.keep-in-Priority.ensures, refl)
 
 pub returns-in-Events : goal.returns-in-Events
 unfolding next_by homes_by numbers_by bytes events_line
 returns-in-Events c =
-    line_turns _ _ _ _ _ _ _ _ _ Events (value_of (bytes "events=")) _ (events_line c.args.self.m) (λ n. c.args.homes.now) (λ n. c.args.numbers.now)
+    line_turns _ _ _ _ _ _ _ _ _ Events (value_of (bytes "events=")) _ (events_line c.args.self.now.m) (λ n. c.args.homes.now) (λ n. c.args.numbers.now)
     c.in-Events.is (λ l. (refl, refl, refl)) (refl, refl, refl) c.value_of-next-in-Events.ensures (c.events_line.ensures, refl, refl)
 
 pub returns-in-Event : goal.returns-in-Event
 unfolding next_by homes_by numbers_by event_line kept_all
 returns-in-Event c =
-    line_turns _ _ _ _ _ _ _ _ _ Event event_of _ (event_line c.args.self.m) (λ n. c.args.homes.now) (kept_all c.args.numbers.now (7 * c.args.self.m.done))
+    line_turns _ _ _ _ _ _ _ _ _ Event event_of _ (event_line c.args.self.now.m) (λ n. c.args.homes.now) (kept_all c.args.numbers.now (7 * c.args.self.now.m.done))
     c.in-Event.is (λ l. (refl, refl, refl)) (refl, refl, refl) c.event_at-next.ensures
     (c.event_line.ensures, refl, c.keep_event.ensures)
 
