@@ -58,14 +58,6 @@ module _ {s : List ℕ} {at v i : ℕ} (r : Digits s at v i) (h : i < length s) 
             (front_then r.front (front_byte s i (slice_index_or s i 0) h refl));
       }
 
-  -- the byte that ends it
-  pub digits_end : (b : ℕ) → slice_index_or s i 0 ≡ b → NumberAt s at b v (i + 1)
-  digits_end b e = record {
-    small = r.small;
-    inside = omega arith;
-    front = front_then r.front (front_byte s i b h e);
-  }
-
 -- ---- seven values at a place
 
 -- a line stands from `at` to i whose values are the first k, whatever comes after it

@@ -202,29 +202,31 @@ module _ (t : List ℕ) (at e : ℕ) (h : at < length t) (f : e ≡ min at (leng
 module _ (t : List ℕ) (at : ℕ) (m : Reading) (hs ns : List ℕ) (r : Reading) (hs' ns' : List ℕ) (next : ℕ) where
   -- where a line is wanted that takes the reading on by f, the homes by g and the numbers by k
   pub line_turns : {A : Type 0} (w : Want) (read : List ℕ → Option A) (o : Option A) (f : Option A → Reading)
-      (g k : Option A → List ℕ)
+      (g k : Option A → List ℕ) {p : ℕ}
       → m.want ≡ w
       → ((l : List ℕ) → (f (read l) ≡ next_by w m l) × (g (read l) ≡ homes_by w m l hs) × (k (read l) ≡ numbers_by w m l ns))
       → (f None ≡ faulted m) × (g None ≡ hs) × (k None ≡ ns)
-      → LineSays t at read o next
-      → (r ≡ f o) × (hs' ≡ g o) × (ns' ≡ k o)
+      → LineSays t at read o p
+      → (next ≡ p) × (r ≡ f o) × (hs' ≡ g o) × (ns' ≡ k o)
       → LineAhead t at m hs ns r hs' ns' next
   line_turns w read o f g k e i n a u =
-      ahead_map
+      rw u.0
+      (ahead_map
       (λ l h.
-      by_want m l hs ns r hs' ns' w e (u.0 ∙ ap f h ∙ (i l).0) (u.1 ∙ ap g h ∙ (i l).1) (u.2 ∙ ap k h ∙ (i l).2))
-      (λ h. (u.0 ∙ ap f h ∙ n.0, u.1 ∙ ap g h ∙ n.1, u.2 ∙ ap k h ∙ n.2))
-      a
+      by_want m l hs ns r hs' ns' w e (u.1 ∙ ap f h ∙ (i l).0) (u.2 ∙ ap g h ∙ (i l).1) (u.3 ∙ ap k h ∙ (i l).2))
+      (λ h. (u.1 ∙ ap f h ∙ n.0, u.2 ∙ ap g h ∙ n.1, u.3 ∙ ap k h ∙ n.2))
+      a)
 
   -- where nothing is wanted, or a line was at fault
-  pub any_turns : (w : Want) → m.want ≡ w
+  pub any_turns : (w : Want) {p : ℕ} → m.want ≡ w
       → ((l : List ℕ) → (r ≡ next_by w m l) × (hs ≡ homes_by w m l hs) × (ns ≡ numbers_by w m l ns))
       → r ≡ faulted m
-      → AnyAhead t at next
-      → (hs' ≡ hs) × (ns' ≡ ns)
+      → AnyAhead t at p
+      → (next ≡ p) × (hs' ≡ hs) × (ns' ≡ ns)
       → LineAhead t at m hs ns r hs' ns' next
   any_turns w e i b a u =
-      ahead_map (λ l h. by_want m l hs ns r hs' ns' w e (i l).0 (u.0 ∙ (i l).1) (u.1 ∙ (i l).2)) (λ h. (b, u.0, u.1)) a
+      rw u.0
+      (ahead_map (λ l h. by_want m l hs ns r hs' ns' w e (i l).0 (u.1 ∙ (i l).1) (u.2 ∙ (i l).2)) (λ h. (b, u.1, u.2)) a)
 
 -- a fault is at fault
 pub fault_faulted : (m : Reading) → m.want ≡ Fault → m ≡ faulted m

@@ -1,6 +1,6 @@
 // What stands ahead in a text, found in one pass over its bytes. That nothing was found tells nothing: the reader then takes
 // the line by its parts.
-ghost use Rattle.std.specs.Prelude.{◌≡◌, Some, IfSome};
+ghost use Rattle.std.specs.Prelude.{◌≡◌, IfSome};
 ghost use Rattle.scenario.specs.Front.{NumberAt, FieldsAt};
 
 // What was found in a text, and the place after it.
@@ -10,14 +10,14 @@ pub(crate) struct Ahead<T> {
     pub value: T,
 }
 
-impl<T> Ahead<T> {
-    // The same, as what was found of a line that may say nothing.
-    pub fn said(self) -> Ahead<Option<T>>
-        ensures { (result.next ≡ self.next) × (result.value ≡ Some self.value) }
+impl<T: Copy> Ahead<T> {
+    // The same place, with another value.
+    pub fn with<U>(self, value: U) -> Ahead<U>
+        ensures { (result.next ≡ self.next) × (result.value ≡ value) }
     {
         Ahead {
             next: self.next,
-            value: Some(self.value),
+            value,
         }
     }
 }

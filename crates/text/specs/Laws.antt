@@ -1,9 +1,10 @@
 -- What follows from the definitions: a decimal is read as n where, and only where, it is the writing of n; where the
 -- parts of a list lie, and that they make it up; and that a line has the value n where, and only where, it is the key and
 -- the writing of n.
-use Rattle.std.specs.Prelude.{◌≡◌, refl, Bool, true, false, cond, ◌&&◌, Option, Some, None, List, [], ◌∷◌, ◌++◌, map, ◌⊎◌, ℕ, zero, suc, ◌+◌, ◌-◌, ◌*◌, ◌/◌, ◌%◌, ◌^◌, ◌≤◌, ◌<◌, min, length, take, drop, set, ◌==◌, nat_eq, nat_le, nat_lt, slice_index_or}
-use Rattle.std.proofs.Common.{sym, ap, ap₂, ◌∙◌, append_assoc, append-nil, inl, inr, ⊎_elim, pow-suc, add-one, arith, length-append, length-drop, take_all, take-suc-set, drop-drop, lt-ltb, le-ltb, le-leb, eq-eqb, ne_eqb, leb-true, ltb-true, ltb-false, eqb-true}
-use Rattle.std.proofs.lemmas.Bool.{false≢true, eqb-false}
+use Rattle.std.specs.Prelude.{◌≡◌, refl, Bool, true, false, cond, ◌&&◌, Option, Some, None, List, [], ◌∷◌, ◌++◌, map, ℕ, zero, suc, ◌+◌, ◌-◌, ◌*◌, ◌/◌, ◌%◌, ◌^◌, ◌≤◌, ◌<◌, min, length, take, drop, set, ◌==◌, nat_eq, nat_le, nat_lt, slice_index_or}
+use Rattle.std.proofs.Common.{sym, ap, ap₂, ◌∙◌, append_assoc, append-nil, ⊎_elim, pow-suc, add-one, arith, length-append, length-drop, take_all, take-suc-set, drop-drop, lt-ltb, le-ltb, le-leb, eq-eqb, ne_eqb, leb-true, ltb-true, eqb-true}
+use Rattle.std.proofs.lemmas.Bool.{false≢true, eqb-false, cases_lt}
+use Rattle.std.proofs.lemmas.Option.{none-some}
 use Rattle.std.specs.Option.{option_map, option_and_then}
 use Rattle.std.specs.Cmp.Lexicographic.{pointwise}
 use Rattle.std.proofs.lemmas.List.{map-append, length-map}
@@ -14,14 +15,6 @@ use Rattle.text.specs.Decimal.{is_digit, goes_on, number_of, digits, digits_by}
 use Rattle.text.specs.Line.{before, cut, parts, starts, value_of, numbers_in, fields_by, fields_of}
 
 -- ---- the writing of a number
-
--- two numbers are in one order or the other
-lt_or_ge : (m n : ℕ) → (m < n) ⊎ (n ≤ m)
-lt_or_ge m n = go (nat_lt m n) refl
-  where
-    go : (t : Bool) → nat_lt m n ≡ t → (m < n) ⊎ (n ≤ m)
-    go true e = inl (ltb-true m n e)
-    go false e = inr (ltb-false m n e)
 
 -- a count of digits that suffices may be larger by one
 fuel : (k n : ℕ) → n < 10 ^ suc k → digits_by (suc k) n ≡ digits_by (suc (suc k)) n
@@ -67,13 +60,9 @@ pub digits_some : (n : ℕ) → n < 4294967296 → 0 < length (digits n)
 digits_some n g =
     ⊎_elim (λ h. omega (arith, ap length (digits_low n h)))
     (λ h. omega (arith, ap length (digits_high n h g), length-append (digits (n / 10)) ((48 + n % 10) ∷ [])))
-    (lt_or_ge n 10)
+    (cases_lt n 10)
 
 -- ---- one byte of a decimal
-
--- no number is none
-no : (n : ℕ) → None ≡ Some n → ⊥
-no n e = let z : ◌≡◌ {A = ℕ} 0 1 = cc in omega arith
 
 -- what is known of a byte b where the number v goes on to n with it and the rest
 pub record Digit (v b n : ℕ) (l : List ℕ) : Type 0 where
@@ -92,9 +81,9 @@ went_on v b n l e = go (nat_le 48 b) (nat_le b 57) (nat_lt (v * 10 + (b - 48)) 4
         → Digit v b n l
     go true true true i j k f =
         record { low = leb-true 48 b i; high = leb-true b 57 j; fits = ltb-true _ _ k; rest = f }
-    go true true false i j k f = absurd (no n f)
-    go true false u i j k f = absurd (no n f)
-    go false t u i j k f = absurd (no n f)
+    go true true false i j k f = absurd (none-some n f)
+    go true false u i j k f = absurd (none-some n f)
+    go false t u i j k f = absurd (none-some n f)
 
 -- a digit takes the number on
 pub goes_on_lem : (v b : ℕ) (l : List ℕ) → 48 ≤ b → b ≤ 57 → v * 10 + (b - 48) < 4294967296
@@ -145,12 +134,12 @@ number_many (b ∷ c ∷ l) h g = simp (ne_eqb b 48 g)
 -- what is a decimal is its digits
 number_goes : (l : List ℕ) (n : ℕ) → number_of l ≡ Some n → goes_on 0 l ≡ Some n
 unfolding number_of
-number_goes [] n e = absurd (no n e)
+number_goes [] n e = absurd (none-some n e)
 number_goes (b ∷ []) n e = e
 number_goes (b ∷ c ∷ l) n e = go (b == 48) e
   where
     go : (t : Bool) → cond t None (goes_on 0 (b ∷ c ∷ l)) ≡ Some n → goes_on 0 (b ∷ c ∷ l) ≡ Some n
-    go true f = absurd (no n f)
+    go true f = absurd (none-some n f)
     go false f = f
 
 -- a number that fits goes on to one that fits
@@ -194,7 +183,7 @@ goes-digits (suc k) n h g =
     ∙ goes-more (digits (n / 10)) 0 (n / 10) (n % 10) (omega arith) (omega arith)
     (goes-digits k (n / 10) (omega (arith, pow-suc 10 k)) (omega arith))
     ∙ ap Some tenth)
-    (lt_or_ge n 10)
+    (cases_lt n 10)
   where
     tenth : n / 10 * 10 + n % 10 ≡ n
     tenth = omega arith
@@ -210,14 +199,14 @@ first-digit (suc k) n h g p =
       ap (λ (x : List ℕ). slice_index_or x 0 0) (digits_high n l g),
       get_or-append (digits (n / 10)) ((48 + n % 10) ∷ []) 0 0 (digits_some (n / 10) (omega arith)),
     ))
-    (lt_or_ge n 10)
+    (cases_lt n 10)
 
 -- the writing of a number of 32 bits is read as that number
 pub read_back : (n : ℕ) → n < 4294967296 → number_of (digits n) ≡ Some n
 read_back n g =
     ⊎_elim (λ h. number_one (digits n) some (omega (arith, ap length (digits_low n h))))
     (λ h. number_many (digits n) some (λ e. omega (arith, first-digit 10 n (omega arith) g (omega arith))))
-    (lt_or_ge n 10)
+    (cases_lt n 10)
     ∙ goes-digits 10 n (omega arith) g
   where
     some : length (digits n) ≡ 0 → ⊥
@@ -252,12 +241,12 @@ first_written b v h g e =
 -- what is read as n is the writing of n
 pub print_back : (l : List ℕ) (n : ℕ) → number_of l ≡ Some n → digits n ≡ l
 unfolding number_of goes_on
-print_back [] n e = absurd (no n e)
+print_back [] n e = absurd (none-some n e)
 print_back (b ∷ []) n e = let w = went_on 0 b n [] e in first_written b n w.low w.high (cc w.rest)
 print_back (b ∷ c ∷ l) n e = go (b == 48) refl e
   where
     go : (t : Bool) → (b == 48) ≡ t → cond t None (goes_on 0 (b ∷ c ∷ l)) ≡ Some n → digits n ≡ b ∷ c ∷ l
-    go true q f = absurd (no n f)
+    go true q f = absurd (none-some n f)
     go false q f =
         let w = went_on 0 b n (c ∷ l) f in
         let p : 48 < b = lt_of_le-ne w.low (λ z. eqb-false b 48 q (sym z)) in
@@ -475,7 +464,7 @@ valued key l n e = go (starts key l) refl e
     go : (t : Bool) → starts key l ≡ t → cond t (number_of (drop (length key) l)) None ≡ Some n
         → (starts key l ≡ true) × (number_of (drop (length key) l) ≡ Some n)
     go true s f = (s, f)
-    go false s f = absurd (no n f)
+    go false s f = absurd (none-some n f)
 
 -- .. so only they have it ..
 pub value_read : (key l : List ℕ) (n : ℕ) → value_of key l ≡ Some n → key ++ digits n ≡ l
@@ -514,13 +503,10 @@ value_more v k x ns h =
 pub starts_long : (key l : List ℕ) → starts key l ≡ true → length key ≤ length l
 unfolding starts
 starts_long [] l e = omega arith
-starts_long (k ∷ key) [] e = absurd (no e)
-  where
-    no : false ≡ true → ⊥
-    no f = let z : ◌≡◌ {A = ℕ} 0 1 = cc in omega arith
+starts_long (k ∷ key) [] e = absurd (false≢true e)
 starts_long (k ∷ key) (x ∷ l) e = go (x == k) e (starts_long key l)
   where
     go : (t : Bool) → (t && starts key l) ≡ true → (starts key l ≡ true → length key ≤ length l)
         → suc (length key) ≤ suc (length l)
     go true f r = let h = r f in omega arith
-    go false f r = let z : ◌≡◌ {A = ℕ} 0 1 = cc in absurd (omega arith)
+    go false f r = absurd (false≢true f)

@@ -27,7 +27,8 @@ fn from_digits(s: &[u8]) -> Option<u32>
     Some(v)
 }
 
-// The number that a digit takes v on to, where the byte is a digit and the number is below 2^32.
+// The number that a digit takes v on to, where the byte is a digit and the number is below 2^32. Ten times a number below
+// 2^32 fits in 64 bits.
 #[tactic(auto, unfolding(crate::specs::Decimal::goes_on))]
 pub fn with_digit(v: u32, b: u8) -> Option<u32>
     ensures { result ≡ goes_on v (b ∷ []) }
@@ -35,7 +36,8 @@ pub fn with_digit(v: u32, b: u8) -> Option<u32>
     if !b.is_ascii_digit() {
         return None;
     }
-    v.checked_mul(10)?.checked_add(u32::from(b - b'0'))
+    let w = u64::from(v) * 10 + u64::from(b - b'0');
+    u32::try_from(w).ok()
 }
 
 // Where the first byte b at or after `at` stands: the length where there is none, or where `at` is past the end.

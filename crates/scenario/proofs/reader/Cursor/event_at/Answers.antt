@@ -7,7 +7,7 @@ use Rattle.scenario.proofs.reader.Cursor.event_at.Goals as goal
 
 pub returns-in-Some : goal.returns-in-Some
 unfolding bytes
-returns-in-Some c = rw (c.said.ensures.0, c.said.ensures.1)
+returns-in-Some c = rw (c.with.ensures.0, c.with.ensures.1)
     (event_ahead _ _ _ _ (sym c.starts.ensures ∙ c.if-starts.true) c.in-Some.ensures)
 
 pub returns : goal.returns

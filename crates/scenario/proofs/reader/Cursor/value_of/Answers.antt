@@ -4,7 +4,7 @@ use Rattle.scenario.proofs.Laws.{ahead_map, value_ahead}
 use Rattle.scenario.proofs.reader.Cursor.value_of.Goals as goal
 
 pub returns-in-Some : goal.returns-in-Some
-returns-in-Some c = rw (c.said.ensures.0, c.said.ensures.1)
+returns-in-Some c = rw (c.with.ensures.0, c.with.ensures.1)
     (value_ahead _ _ _ _ _ (sym c.starts.ensures ∙ c.if-starts.true) c.requires c.in-Some.ensures)
 
 pub returns : goal.returns
