@@ -1,8 +1,6 @@
 -- What is printed one after the other, and what a loop prints that prints something for each element of a list.
 use Rattle.std.specs.Prelude.{slice_index_or}
-use Rattle.std.specs.Fmt.{decimal}
-use Rattle.std.proofs.Common.{◌≡◌, ℕ, zero, suc, ◌+◌, ◌-◌, ◌<◌, ◌≤◌, List, [], ◌∷◌, ◌++◌, length, take, drop, set, min, refl, sym, ap, ap₂, ◌∙◌, add-zero, append_assoc, append-nil, arith, rules, length-append, length-take-le, take_all}
-use Rattle.std.proofs.lemmas.Fmt.{AppendsLastDigit, decimal_from_appends, length-decimal-le}
+use Rattle.std.proofs.Common.{◌≡◌, ℕ, zero, suc, ◌+◌, ◌-◌, ◌<◌, ◌≤◌, List, [], ◌∷◌, ◌++◌, length, take, drop, set, min, refl, sym, ap, ap₂, ◌∙◌, add-zero, arith, length-append, length-take-le, take_all}
 use Rattle.std.proofs.lemmas.List.Edits.{sets, sets-eq}
 use borrow.Rule.Slice.PartMut.{put_mid}
 use Rattle.std.proofs.lemmas.List.{at_drop_more, drop_all, take_min}
@@ -12,7 +10,7 @@ use Rattle.protocol.specs.State.{row_at, place_at}
 use Rattle.protocol.specs.declared.Row.{Row}
 use Rattle.protocol.specs.declared.Place.{Place}
 use Rattle.protocol.specs.declared.State.{State}
-use Rattle.text.specs.Decimal.{digits, digits_by}
+use Rattle.text.specs.Decimal.{digits}
 use Rattle.text.specs.Written.{bytes}
 use Rattle.scenario.specs.declared.printer.Printer.{Printer}
 use Rattle.scenario.specs.Put.{printed, site_of}
@@ -143,13 +141,3 @@ pub sites_end : (s : State) (p r : Printer) (n k : ℕ) → printed p (site_line
 sites_end s p r n k i e =
     let z : n - k ≡ 0 = omega arith in
     sym (ap (printed p) (ap (λ (x : ℕ). site_lines x k s) z ∙ sites_none k s) ∙ printed-none p) ∙ i
-
--- ---- a decimal
-
--- what the library writes for a number of 32 bits is its decimal
-pub decimal_digits : (n : ℕ) → n < 4294967296 → decimal n ≡ digits n
-unfolding digits digits_by
-decimal_digits n h = sym (decimal_from_appends digits_by appends 10 n (omega arith) (length-decimal-le 10 n (omega arith) (omega arith) (omega arith)))
-  where
-    appends : AppendsLastDigit digits_by
-    appends = search rules

@@ -80,7 +80,7 @@ short_buffer = 34
 
 -- a report l for which there is room for so many bytes: its length, or a refusal where the room is too little
 unfoldable pub reported : List ℕ → ℕ → Result ℕ ShortBuffer
-reported l room = cond (nat_lt room (length l)) (Err (record { })) (Ok (length l))
+reported l room = cond (nat_lt room (length l)) (Err (record {})) (Ok (length l))
 
 -- what the lent bytes then hold, where they held `old`
 unfoldable pub reported_in : List ℕ → List ℕ → List ℕ

@@ -1,8 +1,8 @@
 -- The report is printed from the start, and has the room.
-use Rattle.std.proofs.Common.{◌≡◌, ℕ, ◌+◌, length, ap, ◌∙◌, arith, rules}
+use Rattle.std.proofs.Common.{◌≡◌, length, ap, ◌∙◌, arith, rules}
 use Rattle.std.proofs.Math.Seq.{length-sets}
 use Rattle.std.proofs.lemmas.List.Edits.{sets}
-use Rattle.scenario.proofs.Writing.{with_bytes, printed-all}
+use Rattle.scenario.proofs.Writing.{printed-all}
 use Rattle.scenario.specs.Put.{printed}
 use Rattle.scenario.specs.Report.{report_of}
 use Rattle.scenario.specs.Room.{report_fits}

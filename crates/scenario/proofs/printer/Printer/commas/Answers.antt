@@ -1,5 +1,5 @@
 -- No element prints nothing; else the first decimal is printed, and the others after it.
-use Rattle.std.proofs.Common.{◌∙◌, sym, ap, arith}
+use Rattle.std.proofs.Common.{◌∙◌, sym, arith}
 use Rattle.std.proofs.lemmas.List.{nil_from_length}
 use Rattle.scenario.proofs.Writing.{printed-none, printed-both, other_rows, rows_next, rows_end}
 use Rattle.scenario.specs.Report.{commas_of}
