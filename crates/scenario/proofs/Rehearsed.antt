@@ -1,7 +1,7 @@
 -- What the code of a rehearsal does at each turn is what the report of a text says.
-use Rattle.std.proofs.Common.{◌≡◌, ℕ, ◌+◌, ◌*◌, ◌/◌, ◌<◌, ◌≤◌, true, false, List, [], ◌++◌, length, take, drop, Result, Ok, Err, refl, sym, ap, ◌∙◌, arith, le-ltb, lt-ltb, ne_eqb}
-use lib.Seq.{sets-eq, take-append_seam}
-use Rattle.protocol.specs.State.{max_sites, max_txns, max_events}
+use Rattle.std.proofs.Common.{◌≡◌, ℕ, ◌+◌, ◌*◌, ◌/◌, ◌<◌, ◌≤◌, true, false, List, ◌++◌, length, take, drop, Result, Ok, Err, refl, sym, ap, ◌∙◌, arith, le-ltb, lt-ltb, ne_eqb}
+use lib.Seq.{sets, sets-eq, take-append_seam}
+use Rattle.protocol.specs.State.{max_sites, max_events}
 use Rattle.protocol.specs.Setup.{setup_of}
 use Rattle.protocol.specs.Range.{in_range}
 use Rattle.protocol.specs.Run.{events_of, state_after, answers_of, sent_by, run_answer, run, answers_after}
@@ -20,11 +20,10 @@ use Rattle.laws.specs.Ranged.{after_counts}
 use Rattle.laws.specs.Runs.{events-length, answers_length, run-goes, setup_of_ranged}
 use Rattle.text.specs.Written.{bytes}
 use Rattle.scenario.specs.Format.{read_text, whole, entries_of}
-use Rattle.scenario.specs.Put.{printed, end_lines}
+use Rattle.scenario.specs.Put.{end_lines}
 use Rattle.scenario.specs.Report.{max_text, line_of, run_lines, outcome_of, read_report, report_of, reported, reported_in, Reported}
-use Rattle.scenario.specs.Room.{last_fits, report_fits}
+use Rattle.scenario.specs.Room.{last_fits}
 use Rattle.scenario.specs.declared.Reading.{Reading}
-use Rattle.scenario.proofs.Writing.{printed-all}
 
 -- a run from a state in range whose answers have room for 1,024: what is returned, and what the answers then hold
 module _ (s : State) (numbers old : List ℕ) (h : Shaped s) (r : in_range s ≡ true) (few : length numbers ≤ 7 * max_events)
@@ -39,9 +38,9 @@ module _ (s : State) (numbers old : List ℕ) (h : Shaped s) (r : in_range s ≡
     ends : ran ≡ record { answer = 0; sent = sent_by s events; state = state_after s events }
     ends = e ∙ run-done s events (length old) goes
 
-    -- the last state has no more sites and transactions than a setup takes
-    pub ends_fit : (ran.state.sites ≤ max_sites) × (ran.state.count ≤ max_txns)
-    ends_fit = rw ends (last_fits s numbers h r few)
+    -- the last state has no more sites than a setup takes
+    pub ends_fit : ran.state.sites ≤ max_sites
+    ends_fit = rw ends (last_fits s numbers h r few).0
 
     -- the first of the places for answers hold those of the events, so the lines are those of the run
     pub lines : answers ≡ answers_after s events old
@@ -107,24 +106,32 @@ module _ (t : List ℕ) where
     unfolding report_of read_report
     read_whole homes numbers f g w = rw (le-ltb max_text (length t) h, ← e, ← f, ← g, w)
 
--- ---- the printed report d in the lent bytes
+-- ---- a report l at the start of bytes that held old
 
-module _ (t old d : List ℕ) (e : d ≡ printed [] (report_of t)) where
-  whole_report : d ≡ report_of t
-  whole_report = e ∙ printed-all (report_of t) (report_fits t)
-
-  pub short : length old < length d → Reported (report_of t) old (Err (record {})) old
+module _ (l old : List ℕ) where
+  -- there are too few
+  pub short : {n : ℕ} → n ≡ length l → length old < n → Reported l old (Err (record {})) old
   unfolding reported reported_in
-  short h = rw (← whole_report) (let b = lt-ltb (length old) (length d) h in record { result = rw b refl; bytes = rw b refl })
+  short e h =
+      let b = lt-ltb (length old) (length l) (omega arith) in
+      record { result = rw b refl; bytes = rw b refl }
 
-  pub copied : {c : List ℕ} → c ≡ d → length d ≤ length old
-      → Reported (report_of t) old (Ok (length d)) (c ++ drop (length d) old)
+  -- it is stored
+  pub stored : {n : ℕ} {o : List ℕ} → n ≡ length l → o ≡ sets old 0 l → n ≤ length old → Reported l old (Ok n) o
   unfolding reported reported_in
-  copied f h =
-      let b = le-ltb (length old) (length d) h in
-      let z : 0 + length d ≡ length d = omega arith in
-      rw (← whole_report, f)
-      record {
-        result = rw b refl;
-        bytes = rw b (sym (sets-eq d old 0 (omega arith) ∙ ap (λ (k : ℕ). d ++ drop k old) z));
-      }
+  stored e f h =
+      let b = le-ltb (length old) (length l) (omega arith) in
+      record { result = rw (b, e) refl; bytes = rw (b, f) refl }
+
+  start : length l ≤ length old → sets old 0 l ≡ l ++ drop (length l) old
+  start h =
+      let z : 0 + length l ≡ length l = omega arith in
+      sets-eq l old 0 (omega arith) ∙ ap (λ (k : ℕ). l ++ drop k old) z
+
+  -- so many of the bytes are the report
+  pub first : {n : ℕ} {o : List ℕ} → n ≡ length l → o ≡ sets old 0 l → n ≤ length old → take n o ≡ l
+  first e f h = rw (f, e, start (omega arith)) (take-append_seam l (drop (length l) old))
+
+  -- copied, they are stored
+  pub copied : {n : ℕ} {d : List ℕ} → n ≡ length l → d ≡ l → n ≤ length old → d ++ drop n old ≡ sets old 0 l
+  copied e f h = rw (f, e) (sym (start (omega arith)))

@@ -4,8 +4,7 @@
 ghost use Rattle.std.specs.Prelude.{◌≡◌};
 ghost use Rattle.scenario.specs.Report.{short_buffer, report_of, Reported};
 
-use crate::printer::Printer;
-use crate::rehearsal::print_report;
+use crate::rehearsal::write_report;
 
 // Which line is wanted next: the number of sites, the number of transactions, a transaction's home, its priority, the
 // number of events, an event, nothing more; or the last line was not of the form.
@@ -62,16 +61,26 @@ pub(crate) mod printer;
 pub mod reader;
 pub(crate) mod rehearsal;
 
+// The report of a text by way of bytes of its own, as the lent ones may be too few.
+fn report_by_way(text: &[u8], out: &mut [u8]) -> Result<usize, ShortBuffer>
+    ensures { Reported (report_of text.now) out.old result out.new }
+{
+    let mut space = [0u8; REPORT_ROOM];
+    let n = write_report(text, &mut space);
+    if out.len() < n {
+        return Err(ShortBuffer);
+    }
+    out[..n].copy_from_slice(&space[..n]);
+    Ok(n)
+}
+
 // The report of a text into lent bytes, whose others stay, and its length. Where they are too few nothing is written.
+// Lent bytes that every report fits are written at once.
 pub fn report(text: &[u8], out: &mut [u8]) -> Result<usize, ShortBuffer>
     ensures { Reported (report_of text.now) out.old result out.new }
 {
-    let mut printer = Printer::new();
-    print_report(&mut printer, text);
-    let report = printer.text();
-    if out.len() < report.len() {
-        return Err(ShortBuffer);
+    if out.len() < REPORT_ROOM {
+        return report_by_way(text, out);
     }
-    out[..report.len()].copy_from_slice(report);
-    Ok(report.len())
+    Ok(write_report(text, out))
 }

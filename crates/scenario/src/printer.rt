@@ -1,66 +1,55 @@
 // The printer: the lines of a report, one after the other. What has no room is left out, and no report is so long.
-ghost use Rattle.std.specs.Prelude.{◌≡◌, ℕ, ◌≤◌, List, [], ◌∷◌, ◌++◌, length, take};
+ghost use Rattle.std.specs.Prelude.{◌≡◌, ◌≤◌, [], ◌∷◌, take};
 ghost use Rattle.protocol.specs.State.{max_sites};
 ghost use Rattle.protocol.specs.Refusals.{number_of};
 ghost use Rattle.text.specs.Decimal.{digits};
 ghost use Rattle.text.specs.Written.{bytes};
 ghost use Rattle.scenario.specs.Put.{printed, site_of, end_lines};
-ghost use Rattle.scenario.specs.Report.{report_room, line_of, commas_of, list_of, answer_lines, site_lines};
+ghost use Rattle.scenario.specs.Report.{line_of, commas_of, list_of, answer_lines, site_lines};
 
-use crate::REPORT_ROOM;
 use itoa::Buffer;
 use protocol::{Place, Refusal, Row, State};
-use std::marker::Model;
 
-// What has been printed. A clause sees its bytes.
+// Lent bytes, and the place in them after what has been printed.
 #[derive(Drop)]
-pub(crate) struct Printer {
-    bytes: [u8; REPORT_ROOM],
-    length: usize,
+pub(crate) struct Printer<'a> {
+    out: &'a mut [u8],
+    at: usize,
 }
 
-impl Model for Printer {
-    ghost Value = { List ℕ };
-
-    ghost view = { λ p. take p.length p.bytes };
-
-    ghost invariant = { λ p. p.length ≤ report_room };
-}
-
-impl Printer {
+impl<'a> Printer<'a> {
     // Nothing is printed yet.
-    pub(crate) fn new() -> Self
-        ensures { result ≡ [] }
+    pub(crate) fn new(out: &'a mut [u8]) -> Printer<'a>
+        ensures { result ≡ record { out = out.entry; at = 0 } }
     {
-        Printer {
-            bytes: [0; REPORT_ROOM],
-            length: 0,
-        }
+        Printer { out, at: 0 }
     }
 
-    // All that was printed.
-    pub(crate) fn text(&self) -> &[u8]
-        ensures { result.now ≡ self.now }
+    // How many bytes have been printed.
+    pub(crate) fn length(&self) -> usize
+        ensures { result ≡ self.now.at }
     {
-        &self.bytes[..self.length]
+        self.at
     }
 
     // The bytes of s.
     fn bytes(&mut self, s: &[u8])
         ensures { self.new ≡ printed self.old s.now }
     {
-        let n = s.len().min(REPORT_ROOM - self.length);
-        self.bytes[self.length..self.length + n].copy_from_slice(&s[..n]);
-        self.length += n;
+        if self.at < self.out.len() {
+            let n = s.len().min(self.out.len() - self.at);
+            self.out[self.at..self.at + n].copy_from_slice(&s[..n]);
+            self.at += n;
+        }
     }
 
     // One byte.
     fn byte(&mut self, b: u8)
         ensures { self.new ≡ printed self.old (b ∷ []) }
     {
-        if self.length < REPORT_ROOM {
-            self.bytes[self.length] = b;
-            self.length += 1;
+        if self.at < self.out.len() {
+            self.out[self.at] = b;
+            self.at += 1;
         }
     }
 

@@ -1,12 +1,13 @@
 // The rehearsal: what was read is set up and run, and its report is printed.
 ghost use Rattle.std.specs.Prelude.{◌≡◌, ◌*◌, ◌≤◌, true, length};
+ghost use Rattle.std.proofs.lemmas.List.Edits.{sets};
 ghost use Rattle.protocol.specs.State.{max_events};
 ghost use Rattle.protocol.specs.Setup.{setup_of};
 ghost use Rattle.protocol.specs.Range.{in_range};
 ghost use Rattle.laws.specs.Shape.{Shaped};
 ghost use Rattle.scenario.specs.Format.{entries_of};
 ghost use Rattle.scenario.specs.Put.{printed};
-ghost use Rattle.scenario.specs.Report.{run_lines, outcome_of, report_of};
+ghost use Rattle.scenario.specs.Report.{report_room, run_lines, outcome_of, report_of};
 
 use crate::printer::Printer;
 use crate::reader::{entries_of, read, whole};
@@ -17,7 +18,7 @@ use protocol::{Refusal, State};
 const MAX_EVENTS: u32 = 1024;
 
 // The report of a run from the state s.
-fn print_run(p: &mut Printer, s: State, numbers: &[u32])
+fn print_run(p: &mut Printer<'_>, s: State, numbers: &[u32])
     requires { (Shaped s) × (in_range s ≡ true) × (length numbers.now ≤ 7 * max_events) }
     ensures { p.new ≡ printed p.old (run_lines s numbers.now) }
 {
@@ -28,7 +29,7 @@ fn print_run(p: &mut Printer, s: State, numbers: &[u32])
 }
 
 // The report of a text of the form: a refused setup, too many events, or what its run reports.
-fn print_outcome(p: &mut Printer, m: Reading, homes: &[u32; HOMES], numbers: &[u32; NUMBERS])
+fn print_outcome(p: &mut Printer<'_>, m: Reading, homes: &[u32; HOMES], numbers: &[u32; NUMBERS])
     ensures { p.new ≡ printed p.old (outcome_of (setup_of m.sites m.count (entries_of homes.now)) m.events numbers.now) }
 {
     let b = rules::setup_of(m.sites, m.count as usize, entries_of(homes));
@@ -40,7 +41,7 @@ fn print_outcome(p: &mut Printer, m: Reading, homes: &[u32; HOMES], numbers: &[u
 }
 
 // The report of a text.
-pub(crate) fn print_report(p: &mut Printer, text: &[u8])
+fn print_report(p: &mut Printer<'_>, text: &[u8])
     ensures { p.new ≡ printed p.old (report_of text.now) }
 {
     if MAX_TEXT < text.len() {
@@ -55,4 +56,16 @@ pub(crate) fn print_report(p: &mut Printer, text: &[u8])
     } else {
         p.line(b"fault=", m.line as u32);
     }
+}
+
+// The report of a text at the start of bytes that every report fits, and its length.
+pub(crate) fn write_report(text: &[u8], out: &mut [u8]) -> usize
+    requires { report_room ≤ length out.old }
+    ensures within { result ≤ length out.new }
+    ensures length { result ≡ length (report_of text.now) }
+    ensures bytes { out.new ≡ sets out.old 0 (report_of text.now) }
+{
+    let mut printer = Printer::new(out);
+    print_report(&mut printer, text);
+    printer.length()
 }

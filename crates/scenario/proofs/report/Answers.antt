@@ -1,14 +1,12 @@
--- The whole report is printed, and copied where it has the room.
-use Rattle.std.proofs.Common.{◌∙◌}
-use Rattle.scenario.proofs.Rehearsed.{short, copied}
+-- Every report fits where there is the room that always suffices.
+use Rattle.std.proofs.Common.{arith}
+use Rattle.scenario.proofs.Rehearsed.{stored}
+use Rattle.scenario.specs.Room.{report_fits}
+use Rattle.scenario.specs.Report.{report_of}
 use Rattle.scenario.proofs.report.Goals as goal
-
-pub returns-then-out-report : goal.returns-then-out-report
-returns-then-out-report c =
-    let e = c.text-report.ensures ∙ rw (← c.new-printer.ensures) c.print_report.ensures in
-    short c.args.text.now c.args.out.now _ e c.if-out-report.true
 
 pub returns : goal.returns
 returns c =
-    let e = c.text-report.ensures ∙ rw (← c.new-printer.ensures) c.print_report.ensures in
-    copied c.args.text.now c.args.out.now _ e c.copy_from_slice.ensures.after c.if-out-report.false
+    let write = c.write_report.ensures in
+    stored (report_of c.args.text.now) c.args.out.now write.length write.bytes
+    (omega (arith, write.length, report_fits c.args.text.now, c.if-out-lt-REPORT_ROOM.false))

@@ -6,8 +6,8 @@ use Rattle.scenario.proofs.rehearsal.print_run.Goals as goal
 
 pub run-requires : goal.run-requires
 run-requires c =
-    (ends_fit c.args.s c.args.numbers.now (replicate 1024 0) c.requires.0 c.requires.1 c.requires.2 (omega arith) _
-    c.run-r.new.answers c.run-r.ensures.0).0
+    ends_fit c.args.s c.args.numbers.now (replicate 1024 0) c.requires.0 c.requires.1 c.requires.2 (omega arith) _
+    c.run-r.new.answers c.run-r.ensures.0
 
 pub returns : goal.returns
 returns c =

@@ -1,18 +1,12 @@
--- As many bytes are stored as have room.
-use Rattle.std.proofs.Common.{◌≡◌, ℕ, List, ◌++◌, ◌+◌, ◌-◌, min, length, take, ap, ◌∙◌, arith, length-take-le}
-use Rattle.std.proofs.lemmas.List.{take_min}
-use Rattle.std.proofs.lemmas.Slice.{take-put_mid}
-use Rattle.scenario.specs.Put.{printed}
-use Rattle.scenario.specs.Report.{report_room}
+-- As many bytes are stored as have a place.
+use Rattle.std.proofs.Common.{arith}
+use Rattle.scenario.proofs.Writing.{printed-part, printed-full}
 use Rattle.scenario.proofs.printer.Printer.bytes.Goals as goal
 
-pub returns : goal.returns
-unfolding printed
-returns c =
-    let p = c.self.inside in
-    let s = c.args.s.now in
-    let at = length-take-le p.length p.bytes (omega arith) in
-    let n : c.min-n.result ≡ min (report_room - length (take p.length p.bytes)) (length s) = omega (arith, c.min-n.ensures, at) in
-    rw (← c.self.view_is)
-    (take-put_mid p.length _ p.bytes c.copy_from_slice.new.self (p.length + c.min-n.result) (omega arith) (omega arith)
-    ∙ ap (λ (d : List ℕ). take p.length p.bytes ++ d) (c.copy_from_slice.ensures.after ∙ ap (λ (k : ℕ). take k s) n ∙ take_min _ s))
+pub returns-then-self : goal.returns-then-self
+returns-then-self c =
+    printed-part c.args.self.now c.args.s.now _ c.min-n.result _ c.copy_from_slice.ensures.after c.min-n.ensures (omega arith)
+    (omega arith)
+
+pub returns-else-self : goal.returns-else-self
+returns-else-self c = printed-full c.args.self.now c.args.s.now c.if-self.false
