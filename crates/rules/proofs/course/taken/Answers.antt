@@ -14,15 +14,18 @@ bounds-s-i c = (site_at _ c.requires _ _ c.index-i.ensures).1
 pub bounds-s-i-2 : goal.bounds-s-i-2
 bounds-s-i-2 c = (site_at _ c.requires _ _ c.index-i.ensures).1
 
-pub told-told-requires : goal.told-told-requires
-told-told-requires c = count_below _ c.requires
+pub overflow_cast-view : goal.overflow_cast-view
+overflow_cast-view c = omega (arith, count_below _ c.requires)
+
+pub invariant_of-view : goal.invariant_of-view
+invariant_of-view c = record { fits = count_below _ c.requires }
 
 pub turn_of-requires : goal.turn_of-requires
 turn_of-requires c = versions_below _ c.requires _ (site_at _ c.requires _ _ c.index-i.ensures).0
 
 pub returns-in_err-d : goal.returns-in_err-d
 returns-in_err-d c =
-    let w = rw c.index-2.ensures.is at c.told-told.ensures in
+    let w = rw c.index-2.ensures.is at c.tells-told.ensures in
     let p =
     turn_taken c.args.s.now c.args.e c.requires _ _ c.index-i.ensures (c.at-t.ensures ∙ c.index.ensures) _ w (Err c.in_err-d.field-0.0)
     (rw c.index-2.ensures.is at c.in_err-d.ensures) in
@@ -30,7 +33,7 @@ returns-in_err-d c =
 
 pub returns : goal.returns
 returns c =
-    let w = rw c.index-2.ensures.is at c.told-told.ensures in
+    let w = rw c.index-2.ensures.is at c.tells-told.ensures in
     rw c.leave.ensures
     (turn_taken c.args.s.now c.args.e c.requires _ _ c.index-i.ensures (c.at-t.ensures ∙ c.index.ensures) _ w (Ok c.in_ok-d.d)
     (rw c.index-2.ensures.is at c.in_ok-d.ensures))
