@@ -1,6 +1,6 @@
 -- The checks in the code's order are those of the table: the number of the action, what is asked of every event, and
 -- what the action itself asks.
-use Rattle.std.specs.Prelude.{◌==◌, nat_lt, nat_le, slice_index_or}
+use Rattle.std.specs.Prelude.{nat_lt, nat_le, slice_index_or}
 use Prim.Native.Nat.{ℕ, suc, ◌-◌, ◌≤◌, ◌<◌}
 use mathlib.Core.Path.{◌≡◌, refl, sym, ap, ◌∙◌, subst}
 use mathlib.Core.Bool.{Bool, true, false, not, cond, ◌&&◌, ◌||◌, or-false}

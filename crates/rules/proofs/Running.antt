@@ -1,5 +1,5 @@
 -- A run under way: what the whole list of events gives is what has been done so far, followed by what the rest gives.
-use Rattle.std.specs.Prelude.{slice_index_or, nat_lt}
+use Rattle.std.specs.Prelude.{nat_lt}
 use Prim.Native.Nat.{ℕ, suc, ◌+◌, ◌<◌, ◌≤◌}
 use mathlib.Core.Path.{◌≡◌, refl, sym, ap, ap₂, ◌∙◌}
 use mathlib.Core.Bool.{Bool, true, false, not, cond}
@@ -7,7 +7,7 @@ use mathlib.Core.List.{List, [], ◌∷◌, ◌++◌, append_assoc, append-nil}
 use native.Mathlib.Nat.{add_assoc, add-zero, le_refl}
 use native.Mathlib.Numerals.{add-one}
 use native.Mathlib.Omega.{arith}
-use lib.ListN.{length, take, drop, set, length-set, drop_of_length-le, take-append-drop}
+use lib.ListN.{length, take, drop, set, drop_of_length-le, take-append-drop}
 use lib.Seq.{take-suc-set, drop-set-lt, drop-drop}
 use borrow.Author.Tests.{ltb-false}
 use Rattle.protocol.specs.State.{max_events}
@@ -22,7 +22,6 @@ use Rattle.laws.specs.Shape.{Shaped}
 use Rattle.laws.specs.Enabled.{run-done, run-refused, answers_written, answers_kept}
 use Rattle.laws.specs.Ranged.{step_shaped, step_ranged}
 use Rattle.rules.specs.Events.{run_refusal}
-use Rattle.rules.proofs.Steps.{few_sent}
 
 module _ (s : State) (es : List Event) (old : List ℕ) where
   -- after k events: the state, the messages sent, and what the places for answers hold

@@ -1,5 +1,5 @@
 -- Each transaction has its entry, so `judged` makes of the state what setup promises.
-use Rattle.std.proofs.Common.{◌≡◌, ◌<◌, ◌∙◌, rules, tests, length, nat_lt, cond}
+use Rattle.std.proofs.Common.{◌≡◌, ◌∙◌, rules, tests, length, nat_lt, cond}
 use Rattle.std.proofs.lemmas.List.{get_or-replicate}
 use Rattle.protocol.specs.State.{empty_state, empty_txn, no_txn, txn_at}
 use Rattle.protocol.specs.Setup.{entry_at, fresh_txn}

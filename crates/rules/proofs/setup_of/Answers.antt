@@ -1,5 +1,5 @@
 -- The first n entries are a table; where n does not fit, `judged` refuses.
-use Rattle.std.proofs.Common.{◌≡◌, ◌≤◌, ◌<◌, ◌∙◌, ap, arith, take, le-leb}
+use Rattle.std.proofs.Common.{◌≡◌, ◌<◌, ◌∙◌, ap, arith, take, le-leb}
 use Rattle.std.proofs.lemmas.Grind.{common_steps}
 use Rattle.protocol.specs.Setup.{setup, setup_of}
 use Rattle.protocol.specs.State.{max_txns}

@@ -1,5 +1,5 @@
 -- Each status is the definition's.
-use Rattle.std.proofs.Common.{◌≡◌, List, ℕ, ap, rules, tests}
+use Rattle.std.proofs.Common.{List, ℕ, ap, rules, tests}
 use Rattle.rules.proofs.Made.{made}
 use Rattle.rules.proofs.copied.started_row.Goals as goal
 

@@ -1,9 +1,8 @@
 -- Each turn of the loop takes the event of the next seven numbers.
-use Rattle.std.proofs.Common.{◌≡◌, ◌+◌, ◌<◌, ap, ◌∙◌, add-zero, arith, length}
+use Rattle.std.proofs.Common.{◌≡◌, ◌+◌, ap, ◌∙◌, add-zero, arith}
 use Rattle.laws.specs.Runs.{events-length}
 use Rattle.protocol.specs.Answer.{step}
 use Rattle.protocol.specs.Refusals.{answer_of, sent_of}
-use Rattle.protocol.specs.Run.{events_of}
 use Rattle.rules.proofs.EventList.{events_from}
 use Rattle.rules.proofs.Running.{going_begun, going_turned, finished}
 use Rattle.rules.proofs.Shape.{shaped}
