@@ -100,7 +100,7 @@ fn setup_refusal(sites: u32, n: usize, s: State) -> Result<(), Refusal>
 }
 
 // The setup of a state into which n entries have been copied. A refused one gives the empty state.
-#[tactic(auto, using(crate::proofs::Fresh::few, crate::proofs::Fresh::few_accepted))]
+#[tactic(auto, using(crate::proofs::Fresh::few_accepted))]
 pub(crate) fn judged(sites: u32, n: usize, s: State) -> Answered<()>
     ensures { started result ≡ judged_of sites n s }
 {
