@@ -239,7 +239,7 @@ impl<'a> Cursor<'a> {
         self.by_parts(|line| text::value(line, key))
     }
 
-    // The event of the line.
+    // The event of the line. One function for this and `value_of` would need a contract over two closures, which is no plainer.
     fn event_at(&self) -> Ahead<Option<[u32; 7]>>
         ensures { LineSays self.now.text.now self.now.at event_of result.value result.next }
     {
