@@ -26,32 +26,31 @@ use Rattle.scenario.specs.Room.{last_fits}
 use Rattle.scenario.specs.declared.Reading.{Reading}
 
 -- a run from a state in range whose answers have room for 1,024: what is returned, and what the answers then hold
-module _ (s : State) (numbers old : List ℕ) (h : Shaped s) (r : in_range s ≡ true) (few : length numbers ≤ 7 * max_events)
-    (room : max_events ≤ length old) (ran : Ran) (answers : List ℕ) where
+module _ (s : State) (numbers : List ℕ) (h : Shaped s) (r : in_range s ≡ true) (few : length numbers ≤ 7 * max_events)
+    (old answers : List ℕ) (ran : Ran) (f : answers ≡ answers_after s (events_of numbers) old)
+    (e : ran ≡ run s (events_of numbers) (length old)) (room : max_events ≤ length old) where
   abbrev events : List Event
   events = events_of numbers
 
   goes : run_answer s events (length old) ≡ 0
   goes = run-goes s events (length old) (omega (arith, events-length numbers)) (omega (arith, events-length numbers)) r
 
-  module _ (e : ran ≡ run s events (length old)) where
-    ends : ran ≡ record { answer = 0; sent = sent_by s events; state = state_after s events }
-    ends = e ∙ run-done s events (length old) goes
+  ends : ran ≡ record { answer = 0; sent = sent_by s events; state = state_after s events }
+  ends = e ∙ run-done s events (length old) goes
 
-    -- the last state has no more sites than a setup takes
-    pub ends_fit : ran.state.sites ≤ max_sites
-    ends_fit = rw ends (last_fits s numbers h r few).0
+  -- the last state has no more sites than a setup takes
+  pub ends_fit : ran.state.sites ≤ max_sites
+  ends_fit = rw ends (last_fits s numbers h r few).0
 
-    -- the first of the places for answers hold those of the events, so the lines are those of the run
-    pub lines : answers ≡ answers_after s events old
-        → end_lines (take (length numbers / 7) answers) ran.state ran.sent ≡ run_lines s numbers
-    unfolding end_lines run_lines
-    lines f =
-        let n : length numbers / 7 ≡ length (answers_of s events) =
-        omega (arith, events-length numbers, answers_length s events) in
-        let first : take (length numbers / 7) answers ≡ answers_of s events =
-        rw (f, answers_written s events old goes, n) (take-append_seam (answers_of s events) (drop (length events) old)) in
-        rw (first, ends, (after_counts s events).0)
+  -- the first of the places for answers hold those of the events, so the lines are those of the run
+  pub lines : end_lines (take (length numbers / 7) answers) ran.state ran.sent ≡ run_lines s numbers
+  unfolding end_lines run_lines
+  lines =
+      let n : length numbers / 7 ≡ length (answers_of s events) =
+      omega (arith, events-length numbers, answers_length s events) in
+      let first : take (length numbers / 7) answers ≡ answers_of s events =
+      rw (f, answers_written s events old goes, n) (take-append_seam (answers_of s events) (drop (length events) old)) in
+      rw (first, ends, (after_counts s events).0)
 
 -- where a run is refused it has sent nothing
 pub sent_or_none : (o : Result ℕ Refusal) → result_unwrap_or o 0 ≡ sent_of o
