@@ -1,7 +1,7 @@
 -- How long a report can be: report_room bytes suffice for every text.
-use Rattle.std.specs.Prelude.{◌≡◌, ℕ, zero, suc, ◌+◌, ◌*◌, ◌<◌, ◌≤◌, true, cond, List, [], ◌∷◌, ◌++◌, length, take, ◌==◌, nat_lt, refl, Result}
+use Rattle.std.specs.Prelude.{◌≡◌, ℕ, zero, suc, ◌+◌, ◌-◌, ◌*◌, ◌<◌, ◌≤◌, true, cond, List, [], ◌∷◌, ◌++◌, length, take, ◌==◌, nat_lt, refl, Result}
 use Rattle.std.specs.Result.{result_unwrap_or}
-use Rattle.std.proofs.Common.{sym, ap, ◌∙◌, append_assoc, length-append, ltb-false, eqb-true}
+use Rattle.std.proofs.Common.{sym, ap, ◌∙◌, append_assoc, append-nil, length-append, ltb-false, eqb-true}
 use native.Mathlib.Omega.{arith}
 use Rattle.std.proofs.Math.ListN.{length-take}
 use Rattle.std.proofs.Math.Seq.{length-sets}
@@ -118,6 +118,46 @@ sites_first n i s =
 pub sites_none : (i : ℕ) (s : State) → site_lines 0 i s ≡ []
 unfolding site_lines
 sites_none i s = refl
+
+-- some sites, and the others
+pub sites_split : (m n i : ℕ) (s : State) → site_lines (m + n) i s ≡ site_lines m i s ++ site_lines n (i + m) s
+sites_split zero n i s =
+    let e : i + 0 ≡ i = omega arith in
+    let z : 0 + n ≡ n = omega arith in
+    rw (sites_none, e, z)
+sites_split (suc m) n i s =
+    let e : i + suc m ≡ suc i + m = omega arith in
+    let z : suc m + n ≡ suc (m + n) = omega arith in
+    let w = site_of s.count (row_at s i) (place_at s i) in
+    rw (e, z)
+    (sites_first (m + n) i s ∙ ap (λ (l : List ℕ). w ++ l) (sites_split m n (suc i) s)
+    ∙ sym (append_assoc w (site_lines m (suc i) s) (site_lines n (suc i + m) s))
+    ∙ ap (λ (l : List ℕ). l ++ site_lines n (suc i + m) s) (sym (sites_first m i s)))
+
+-- one site more
+pub sites_next : (i : ℕ) (s : State)
+    → site_lines (i + 1) 0 s ≡ site_lines i 0 s ++ site_of s.count (row_at s i) (place_at s i)
+sites_next i s =
+    let z : 0 + i ≡ i = omega arith in
+    sites_split i 1 0 s
+    ∙ ap (λ (k : ℕ). site_lines i 0 s ++ site_lines 1 k s) z
+    ∙ ap (λ (l : List ℕ). site_lines i 0 s ++ l)
+    (sites_first 0 i s ∙ ap (λ (l : List ℕ). site_of s.count (row_at s i) (place_at s i) ++ l) (sites_none (suc i) s)
+    ∙ append-nil (site_of s.count (row_at s i) (place_at s i)))
+
+-- some sites and the next are no longer than all
+pub sites_part : (n i : ℕ) (s : State) → i < n
+    → length (site_lines i 0 s) + length (site_of s.count (row_at s i) (place_at s i)) ≤ length (site_lines n 0 s)
+sites_part n i s h =
+    let e : i + 1 + (n - (i + 1)) ≡ n = omega arith in
+    omega (
+      arith,
+      ap length (sites_next i s),
+      length-append (site_lines i 0 s) (site_of s.count (row_at s i) (place_at s i)),
+      ap (λ (k : ℕ). length (site_lines k 0 s)) e,
+      ap length (sites_split (i + 1) (n - (i + 1)) 0 s),
+      length-append (site_lines (i + 1) 0 s) (site_lines (n - (i + 1)) (0 + (i + 1)) s),
+    )
 
 -- n sites from site i on, each with at most 32 numbers in its log
 pub sites_room : (n i : ℕ) (s : State) → s.count ≤ 32
