@@ -2,9 +2,11 @@
 -- returns.
 use Rattle.std.specs.Prelude.{ℕ, ◌+◌, ◌*◌, ◌-◌, ◌≤◌, ◌<◌, ◌≡◌, refl, Bool, true, false, cond, ◌&&◌, ◌≢◌, List, [], ◌∷◌, ◌++◌, ◌==◌, nat_lt}
 use Rattle.onecopy.specs.Words.{sym, ◌∙◌, or-true, ⊎_elim, zero-add, arith, lt-ltb, ltb-true, eqb-true, eqb-false, not-true, has, none, idle, active, precommit, committed, aborted, status_at, place_at, txn_at, at_home, setup_answer, setup, scan_from, others, only, action_of, state_after, sent_by, run_answer, run, Message, Remote, Ready, Commit, Abort, Action, Create, BeginOperation, EndOperation, BeginCommit, EndCommit, LocalAbort, Receive, ExecuteRemote, Discard, Entry, Event, State, both_left, both_right, sites_fit, count_fits, in_none, total_same, total_smaller, has-only, has-others, site_stands, home_fits, scan-parts, scan-asks, scanned, scanning_first, doable, run-done, Cmp, cmp, clash, same, other}
-use Rattle.std.proofs.Common.{ap}
+use Rattle.std.proofs.Common.{ap, subst, Ok}
 use Rattle.protocol.specs.Channel.{lies}
+use Rattle.protocol.specs.Refusals.{answer_of, sent_of, ran as in_numbers}
 use Rattle.protocol.specs.Run.{Ran, events_of}
+use Rattle.protocol.specs.declared.Answered.{Answered}
 use Rattle.laws.specs.Tests.{Same, same?}
 use Rattle.laws.specs.Tests as tests
 use Rattle.laws.specs.Enabled.{run-refused}
@@ -236,16 +238,21 @@ pub run_one_copy : (sites : ℕ) (table : List Entry) → setup_answer sites tab
     (run (setup sites table).state es room).state
 run_one_copy sites table z es room done = rw (run-done (setup sites table).state es room done) (one_copy sites table z es)
 
--- .. and so of what the code returns, whose promise is that it is what `run` says
+-- .. and so of what the code returns, whose promise is that in the numbers of 01 it is what `run` says
 pub returned_one_copy : (sites : ℕ) (table : List Entry) → setup_answer sites table ≡ 0 → (numbers : List ℕ) (room : ℕ)
-    (r : Ran) → r ≡ run (setup sites table).state (events_of numbers) room → r.answer ≡ 0
-    → OneCopy (setup sites table).state (events_of numbers) r.sent r.state
-returned_one_copy sites table z numbers room r e a =
-    rw e (run_one_copy sites table z (events_of numbers) room (go (same? (run_answer s₀ (events_of numbers) room) 0)))
+    (r : Answered ℕ) → in_numbers r ≡ run (setup sites table).state (events_of numbers) room → (sent : ℕ) → r.outcome ≡ Ok sent
+    → OneCopy (setup sites table).state (events_of numbers) sent r.state
+returned_one_copy sites table z numbers room r e sent d = rw (ap sent_of d) at returned
   where
     s₀ : State
     s₀ = (setup sites table).state
 
     go : Same (run_answer s₀ (events_of numbers) room) 0 → run_answer s₀ (events_of numbers) room ≡ 0
     go (tests.same h) = h
-    go (tests.other n) = absurd (n (sym (ap (λ (x : Ran). x.answer) (e ∙ run-refused s₀ (events_of numbers) room n)) ∙ a))
+    go (tests.other n) =
+        absurd (n (sym (ap (λ (x : Ran). x.answer) (e ∙ run-refused s₀ (events_of numbers) room n)) ∙ ap answer_of d))
+
+    returned : OneCopy s₀ (events_of numbers) (sent_of r.outcome) r.state
+    returned =
+        subst (λ (x : Ran). OneCopy s₀ (events_of numbers) x.sent x.state) (sym e)
+        (run_one_copy sites table z (events_of numbers) room (go (same? (run_answer s₀ (events_of numbers) room) 0)))
