@@ -139,9 +139,9 @@ told_of e n xs i t h = record {
   scan = cond (e.action == 11) (scan_all n xs i (scan_of h)) (scan_of h);
 }
 
--- no version here is so large that it could not be noted
-abbrev pub few_versions : Here → Type 0
-few_versions h = (o : ℕ) → o < 32 → version_in h.place o < 255
+-- no version at the site is so large that it could not be noted
+abbrev pub few_versions : Place → Type 0
+few_versions p = (o : ℕ) → o < 32 → version_in p o < 255
 
 -- the turn of an event that asks for the action a and is told w, at its site i and of its transaction t: refused where
 -- something that is asked of every event, or that the action itself asks, is not met

@@ -2,8 +2,9 @@
 // commit here.
 #![tactic(auto, unfolding(protocol::specs::Database::executes, protocol::specs::Database::held_reads, protocol::specs::Database::held_writes, protocol::specs::Database::held, protocol::specs::Database::clashes_with, protocol::specs::Database::conflicts_with, protocol::specs::Database::woken, protocol::specs::Database::appended, protocol::specs::Database::stored, protocol::specs::Database::ended,))]
 
-ghost use Rattle.std.specs.Prelude.{◌≡◌, ℕ, ◌<◌, slice_index_or};
+ghost use Rattle.std.specs.Prelude.{◌≡◌};
 ghost use Rattle.protocol.specs.Database.{executes, held_reads, held_writes, held, clashes_with, conflicts_with, clash, conflicts, noted, ended, woken, appended, stored};
+ghost use Rattle.rules.specs.Turn.{few_versions};
 
 use crate::row::{status_in, store_at};
 use crate::slot::Slot;
@@ -83,7 +84,7 @@ impl View<'_> {
 
 // What x has noted once its pending operation has ended at site p.
 fn noted(x: Txn, p: Place) -> [u8; 32]
-    requires { (o : ℕ) → o < 32 → slice_index_or p.versions o 0 < 255 }
+    requires { few_versions p }
     ensures { result ≡ noted x p }
 {
     let first = sets::minus(x.pendingreads, sets::union(x.reads, x.writes));
@@ -98,7 +99,7 @@ fn noted(x: Txn, p: Place) -> [u8; 32]
 
 // x once its pending operation has ended at site p, its home.
 pub(crate) fn ended(x: Txn, p: Place) -> Txn
-    requires { (o : ℕ) → o < 32 → slice_index_or p.versions o 0 < 255 }
+    requires { few_versions p }
     ensures { result ≡ ended x p }
 {
     Txn {

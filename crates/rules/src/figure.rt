@@ -64,7 +64,7 @@ fn begin_operation(h: Here, t: Slot, reads: u32, writes: u32) -> Turn
 
 // At home t takes in its pending sets and is active again; away from home it is in pre_commit.
 fn end_operation(h: Here, i: usize, t: Slot) -> Turn
-    requires { few_versions h }
+    requires { few_versions h.place }
     ensures { result ≡ ends_operation h i t }
 {
     if h.txn.home as usize == i {
@@ -213,9 +213,9 @@ fn receive(m: Message, h: Here, t: Slot) -> Turn
 }
 
 // What the action does at site i to transaction t, where `scan` is the scan of the site as it ends.
-// That versions are few stays a clause, here and at two more: a `Here` with it would owe its proof wherever a place changes.
+// That versions are few stays a clause of those that note one: a type with it would owe its proof wherever a place changes.
 pub(crate) fn effect(a: Action, h: Here, others: u32, scan: Scan, i: usize, t: Slot) -> Turn
-    requires { few_versions h }
+    requires { few_versions h.place }
     ensures { result ≡ turn_by a h others scan i t }
 {
     match a {

@@ -26,7 +26,7 @@ pub(crate) fn turn_of(
     i: usize,
     t: Slot,
 ) -> Result<Turn, Refusal>
-    requires { few_versions h }
+    requires { few_versions h.place }
     ensures { turned result ≡ turn_of e sites count told h i t }
 {
     let a = asked(e)?;
