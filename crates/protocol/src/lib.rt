@@ -8,7 +8,8 @@ ghost use Rattle.protocol.specs.Refusals.{number_of};
 // How many sites a state has room for: the most that a setup may ask for. The definitions call it max_sites.
 pub const SITES: usize = 8;
 
-// The statuses of a transaction at a site.
+// The statuses of a transaction at a site. They are numbers and no enum, as a state with any other byte in a row is one
+// that a caller may hand over and that is refused as out of range.
 pub const IDLE: u8 = 0;
 
 pub const START: u8 = 1;
@@ -85,7 +86,8 @@ pub struct Row {
     pub status: [u8; 32],
 }
 
-// A commit log: the transactions that have committed at a site, in that order. Entries from `length` on mean nothing.
+// A commit log: the transactions that have committed at a site, in that order. Entries from `length` on mean nothing. The
+// length is a number beside them, as memory is fixed and a log that is too long is refused as out of range.
 #[derive(Clone, Copy)]
 pub struct Log {
     pub length: u32,
@@ -114,7 +116,8 @@ pub struct Place {
 }
 
 // What belongs to one transaction besides its statuses. Reads and writes are sets of objects, missing is the set of the
-// sites whose ready is missing. Of an object, noted is 0 where no version was noted, and v + 1 where version v was.
+// sites whose ready is missing. Of an object, noted is 0 where no version was noted, and v + 1 where version v was: a byte an
+// object, of which a caller may hand over any.
 #[derive(Clone, Copy)]
 pub struct Txn {
     pub home: u32,
@@ -128,6 +131,7 @@ pub struct Txn {
 }
 
 // The whole state. `count` is the number of transactions. Rows, places and transactions beyond the counts mean nothing.
+// Document 01 asks for the rows as an array by value, and memory is fixed.
 #[derive(Clone, Copy)]
 pub struct State {
     pub sites: u32,
@@ -145,7 +149,7 @@ pub struct Answered<T> {
     pub state: State,
 }
 
-// An event, as the caller fills it.
+// An event, as the caller fills it: any numbers, which the answer tells from well filled ones.
 #[derive(Clone, Copy)]
 pub struct Event {
     pub action: u32,

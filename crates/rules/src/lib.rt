@@ -74,7 +74,8 @@ pub fn setup(sites: u32, table: &[Entry]) -> Answered<()>
     judged(sites, table.len(), State { txns, ..empty })
 }
 
-// The same for a caller that holds its entries by value, of which the first n count.
+// The same for a caller that holds its entries by value, of which the first n count. Its promise is of a count and 32
+// entries, so it stands beside the one of a slice.
 pub fn setup_of(sites: u32, n: usize, entries: [Entry; 32]) -> Answered<()>
     ensures { started result ≡ setup_of sites n entries }
 {
@@ -100,20 +101,20 @@ pub fn step(s: State, e: Event) -> Answered<u32>
 
 // Why a run of n events with room for so many answers is refused.
 #[tactic(auto, unfolding(protocol::specs::Check::first_of))]
-fn run_refusal(n: usize, room: usize, s: State) -> Result<(), Refusal>
-    ensures { answer_of result ≡ run_refusal n room s }
+fn run_refusal(n: usize, room: usize, s: &State) -> Result<(), Refusal>
+    ensures { answer_of result ≡ run_refusal n room s.now }
 {
     demand(n <= 1024, Refusal::TooManyEvents)?;
     demand(n <= room, Refusal::NoRoom)?;
-    demand(in_range(&s), Refusal::OutOfRange)
+    demand(in_range(s), Refusal::OutOfRange)
 }
 
-// Takes the events, seven numbers each, one after the other, past refused ones, and writes one answer an event. A run
-// that is refused writes nothing and gives the state back.
+// Takes the events, seven numbers each, as C programs lend them, one after the other, past refused ones, and writes one
+// answer an event. A run that is refused writes nothing and gives the state back.
 pub fn run(s: State, events: &[u32], answers: &mut [u8]) -> Answered<u32>
     ensures { (ran result ≡ run s (events_of events.now) (length answers.old)) × (answers.new ≡ answers_after s (events_of events.now) answers.old) }
 {
-    match run_refusal(events.len() / 7, answers.len(), s) {
+    match run_refusal(events.len() / 7, answers.len(), &s) {
         Ok(()) => performed(s, events, answers),
         Err(refusal) => Answered {
             outcome: Err(refusal),

@@ -51,7 +51,8 @@ pub const REPORT_ROOM: usize = 24576;
 // The longest text that is read.
 pub const MAX_TEXT: usize = 65536;
 
-// What is kept of a text: two numbers for each transaction that a setup takes, and seven for each event of a run.
+// What is kept of a text: two numbers for each transaction that a setup takes, and seven for each event of a run, in lists
+// of numbers, as C programs lend them to the reader.
 pub const HOMES: usize = 64;
 
 pub const NUMBERS: usize = 7168;
