@@ -6,7 +6,7 @@ use mathlib.Core.Bool.{Bool, true, false, cond}
 use lib.ListN.{set}
 use lib.Seq.{set-get_or}
 use borrow.Author.Tests.{lt-ltb, ltb-true, eq-eqb, ne_eqb}
-use Rattle.sets.specs.Set.{size}
+use Rattle.sets.specs.Set.{all_but, size}
 use Rattle.protocol.specs.Lists.{table_from}
 use Rattle.protocol.specs.State.{active, precommit, no_row, no_place, no_txn, row_at, place_at, txn_at, at_home, with_status, with_txn}
 use Rattle.protocol.specs.Database.{ended, commit_here}
@@ -28,7 +28,7 @@ use Rattle.protocol.specs.declared.Refusal.{Refusal}
 use Rattle.laws.specs.Enabled.{numbered}
 use Rattle.laws.specs.Tests.{Test, yes_so, not_so, test, Same, same, other, same?}
 use Rattle.rules.specs.Refusal.{misplaced_by}
-use Rattle.rules.specs.Turn.{here_at, with_here, posted, after_turn, index_of, here_status, here_txn, quiet, telling, scan_of, turn_by, told_of, turn_of, turned}
+use Rattle.rules.specs.Turn.{here_at, with_here, posted, after_turn, index_of, here_status, here_txn, quiet, telling, scan_of, turn_by, told_of, admitted_by, admitted}
 use Rattle.rules.specs.declared.Here.{Here}
 use Rattle.rules.specs.declared.Told.{Told}
 use Rattle.rules.specs.declared.Turn.{Turn}
@@ -102,12 +102,19 @@ index_in : (k n : ℕ) → k < n → index_of k n ≡ k
 index_in k n h = rw (lt-ltb k n h)
 
 module _ (s : State) (e : Event) (fine : in_range s ≡ true) where
-  abbrev turn_at : ℕ → ℕ → Result Turn ℕ
-  turn_at i t = turn_of e s.sites s.count (told_of e s.count s.txns i t (here_at s i t)) (here_at s i t) i t
+  abbrev told_at : ℕ → ℕ → Told
+  told_at i t = told_of e s.count s.txns i t (here_at s i t)
 
-  -- what an event returns that has this turn
-  abbrev pub returned : ℕ → ℕ → Result Turn ℕ → Stepped
-  returned i t (Ok d) = record { answer = 0; sent = d.sent; state = after_turn s i t d }
+  abbrev turn_at : ℕ → ℕ → Result Action ℕ
+  turn_at i t = admitted_by e s.sites s.count (told_at i t) (here_at s i t) t
+
+  -- what an event returns that leaves this
+  abbrev left_by : ℕ → ℕ → Turn → Stepped
+  left_by i t d = record { answer = 0; sent = d.sent; state = after_turn s i t d }
+
+  -- .. whose action is admitted, or not
+  abbrev pub returned : ℕ → ℕ → Result Action ℕ → Stepped
+  returned i t (Ok a) = left_by i t (turn_by a (here_at s i t) (all_but s.sites i) (told_at i t).scan i t)
   returned i t (Err n) = refused n s
 
   module _ (known : no_action e ≡ false) where
@@ -121,14 +128,14 @@ module _ (s : State) (e : Event) (fine : in_range s ≡ true) where
           (scan_of (here_at s e.site e.txn)) refl
 
       in_place : returned e.site e.txn (turn_at e.site e.txn) ≡ step s e
-      in_place = rw (known, well, told_scan) (go (same? (refusal_in s e) 0))
+      in_place = rw (known, well) (go (same? (refusal_in s e) 0))
         where
           go : Same (refusal_in s e) 0
               → returned e.site e.txn
-              (cond (refusal_in s e == 0) (Ok (own s e.site e.txn (action_of e))) (Err (refusal_in s e)))
+              (cond (refusal_in s e == 0) (Ok (action_of e)) (Err (refusal_in s e)))
               ≡ step s e
           go (same z) =
-              rw (eq-eqb _ _ z)
+              rw (eq-eqb _ _ z, told_scan)
               (step-enabled s e fine known well z (left s e.site e.txn (own s e.site e.txn (action_of e)))
               (done_by s e.site e.txn (action_of e)))
           go (other d) = rw (ne_eqb _ _ d) (step-not_enabled s e fine known well _ refl d)
@@ -168,9 +175,9 @@ module _ (s : State) (e : Event) (fine : in_range s ≡ true) where
       go (yes_so h) = rw h (step_unknown s e fine h)
       go (not_so h) = known_turned h i t hi ht
 
-  -- what the code gives for the event's turn is what the event returns
+  -- what the code gives for the event's action is what the event returns
   pub turn_taken : (i t : ℕ) → i ≡ index_of e.site s.sites → t ≡ index_of e.txn s.count
       → (w : Told) → w ≡ told_of e s.count s.txns i t (here_at s i t)
-      → (r : Result Turn Refusal) → turned r ≡ turn_of e s.sites s.count w (here_at s i t) i t
-      → returned i t (turned r) ≡ step s e
+      → (r : Result Action Refusal) → admitted r ≡ admitted_by e s.sites s.count w (here_at s i t) t
+      → returned i t (admitted r) ≡ step s e
   turn_taken i t hi ht w told r h = rw (h, told) (turned_at i t hi ht)

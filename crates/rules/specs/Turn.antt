@@ -143,19 +143,19 @@ told_of e n xs i t h = record {
 abbrev pub few_versions : Place → Type 0
 few_versions p = (o : ℕ) → o < 32 → version_in p o < 255
 
--- the turn of an event that asks for the action a and is told w, at its site i and of its transaction t: refused where
--- something that is asked of every event, or that the action itself asks, is not met
-abbrev pub turn_for : Action → Event → ℕ → ℕ → Told → Here → ℕ → ℕ → Result Turn ℕ
-turn_for a e sites n w h i t =
+-- the action a of an event that is told w, whose transaction is t: refused where something that is asked of every event, or
+-- that the action itself asks, is not met
+abbrev pub admitted_for : Action → Event → ℕ → ℕ → Told → Here → ℕ → Result Action ℕ
+admitted_for a e sites n w h t =
     cond (misplaced_by sites n (h.txn.home == e.site) e == 0)
-    (cond (refusal_of a w.clash t h == 0) (Ok (turn_by a h (all_but sites i) w.scan i t)) (Err (refusal_of a w.clash t h)))
+    (cond (refusal_of a w.clash t h == 0) (Ok a) (Err (refusal_of a w.clash t h)))
     (Err (misplaced_by sites n (h.txn.home == e.site) e))
 
--- the turn of an event, or the number that it is answered
-abbrev pub turn_of : Event → ℕ → ℕ → Told → Here → ℕ → ℕ → Result Turn ℕ
-turn_of e sites n w h i t = cond (no_action e) (Err 2) (turn_for (action_of e) e sites n w h i t)
+-- the action of an event, or the number that the event is answered
+abbrev pub admitted_by : Event → ℕ → ℕ → Told → Here → ℕ → Result Action ℕ
+admitted_by e sites n w h t = cond (no_action e) (Err 2) (admitted_for (action_of e) e sites n w h t)
 
 -- what the code gives for it, in these numbers
-abbrev pub turned : Result Turn Refusal → Result Turn ℕ
-turned (Ok d) = Ok d
-turned (Err r) = Err (number_of r)
+abbrev pub admitted : Result Action Refusal → Result Action ℕ
+admitted (Ok a) = Ok a
+admitted (Err r) = Err (number_of r)

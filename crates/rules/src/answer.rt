@@ -152,11 +152,11 @@ pub(crate) fn misplaced(sites: u32, count: u32, e: Event, here: bool) -> Result<
 }
 
 // What a receive asks.
-fn receive_refusal(m: Message, h: Here, t: Slot) -> Result<(), Refusal>
-    ensures { answer_of result ≡ receive_refusal m h t }
+fn receive_refusal(m: Message, h: &Here, t: Slot) -> Result<(), Refusal>
+    ensures { answer_of result ≡ receive_refusal m h.now t }
 {
     let v = status_in(&h.row, t.index());
-    let there = demand(lies(m, t, h.place.channel), NoMessage);
+    let there = demand(lies(m, t, &h.place.channel), NoMessage);
     match m {
         Message::Remote => demand(v == IDLE, WrongStatus).and(there),
         Message::Ready(_) => demand(v == PRE_COMMIT, WrongStatus)
@@ -168,8 +168,8 @@ fn receive_refusal(m: Message, h: Here, t: Slot) -> Result<(), Refusal>
 }
 
 // What the action itself asks of transaction t. An end of operation is told whether it meets a lock clash at home.
-pub(crate) fn refusal(a: Action, clash: bool, t: Slot, h: Here) -> Result<(), Refusal>
-    ensures { answer_of result ≡ refusal_of a clash t h }
+pub(crate) fn refusal(a: Action, clash: bool, t: Slot, h: &Here) -> Result<(), Refusal>
+    ensures { answer_of result ≡ refusal_of a clash t h.now }
 {
     let v = status_in(&h.row, t.index());
     match a {
@@ -185,7 +185,7 @@ pub(crate) fn refusal(a: Action, clash: bool, t: Slot, h: Here) -> Result<(), Re
         Action::Receive(m) => receive_refusal(m, h, t),
         Action::ExecuteRemote => demand(!sets::is_empty(h.place.queue) && h.place.remove, NoScan),
         Action::Discard(m) => demand(v == ABORTED, WrongStatus).and(demand(
-            lies(m, t, h.place.channel),
+            lies(m, t, &h.place.channel),
             NoMessage,
         )),
     }

@@ -15,8 +15,8 @@ const END_OPERATION: u32 = 3;
 const EXECUTE_REMOTE: u32 = 11;
 
 // A scan as it begins.
-fn begun(h: Here) -> Scan
-    ensures { result ≡ scan_of h }
+fn begun(h: &Here) -> Scan
+    ensures { result ≡ scan_of h.now }
 {
     Scan {
         rest: h.place.queue,
@@ -29,8 +29,8 @@ fn begun(h: Here) -> Scan
 
 impl View<'_> {
     // What the table tells an event at the site of transaction t.
-    pub(crate) fn tells(&self, e: Event, t: Slot, h: Here) -> Told
-        ensures { result ≡ told_of e self.now.count self.now.txns.now self.now.site t h }
+    pub(crate) fn tells(&self, e: Event, t: Slot, h: &Here) -> Told
+        ensures { result ≡ told_of e self.now.count self.now.txns.now self.now.site t h.now }
     {
         Told {
             clash: e.action == END_OPERATION

@@ -8,22 +8,23 @@ ghost use Rattle.rules.specs.Turn.{after_turn};
 
 use crate::channel::posted;
 use crate::events::event_in;
+use crate::figure::effect;
 use crate::slot::Slot;
-use crate::stepping::{index, turn_of};
+use crate::stepping::{admitted, index};
 use crate::view::View;
 use crate::{Here, Turn};
 use protocol::{Answered, Event, Refusal, State};
 
 // Puts back what a turn at site i of transaction t leaves there, and posts its messages.
-fn leave(s: &mut State, i: usize, t: Slot, d: Turn)
+fn leave(s: &mut State, i: usize, t: Slot, d: &Turn)
     requires { i < 8 }
-    ensures { s.new ≡ after_turn s.old i t d }
+    ensures { s.new ≡ after_turn s.old i t d.now }
 {
     s.rows[i] = d.here.row;
     s.places[i] = d.here.place;
     s.txns[t.index()] = d.here.txn;
     if !sets::is_empty(sets::union(d.about, d.readies)) {
-        posted(&d, i, s.sites, &s.txns, &mut s.places);
+        posted(d, i, s.sites, &s.txns, &mut s.places);
     }
 }
 
@@ -44,9 +45,11 @@ pub(crate) fn taken(s: &mut State, e: Event) -> Result<u32, Refusal>
         count: s.count as usize,
         site: i,
     };
-    let told = view.tells(e, t, here);
-    let d = turn_of(e, s.sites, s.count, told, here, i, t)?;
-    leave(s, i, t, d);
+    let told = view.tells(e, t, &here);
+    let a = admitted(e, s.sites, s.count, &told, &here, t)?;
+    let others = sets::all_but(s.sites as usize, i);
+    let d = effect(a, here, others, told.scan, i, t);
+    leave(s, i, t, &d);
     Ok(d.sent)
 }
 

@@ -1,12 +1,11 @@
-// The turn of an event: what it leaves of the parts that it reads, or why it is refused.
+// Whether an event is admitted: the checks, one after the other.
 ghost use Rattle.std.specs.Prelude.{◌≡◌};
-ghost use Rattle.rules.specs.Turn.{index_of, few_versions, turned, turn_of};
+ghost use Rattle.rules.specs.Turn.{index_of, admitted, admitted_by};
 
 use crate::answer::{asked, misplaced, refusal};
-use crate::figure::effect;
 use crate::slot::Slot;
-use crate::{Here, Told, Turn};
-use protocol::{Event, Refusal};
+use crate::{Here, Told};
+use protocol::{Action, Event, Refusal};
 
 // k where it is below n, else 0: an index that is in place whatever an event names.
 pub(crate) fn index(k: u32, n: u32) -> usize
@@ -15,23 +14,20 @@ pub(crate) fn index(k: u32, n: u32) -> usize
     if k < n { k as usize } else { 0 }
 }
 
-// The turn of an event among so many sites and transactions, where h is what stands at its site i and its transaction t,
-// and `told` is what the table told it.
-pub(crate) fn turn_of(
+// The action of an event among so many sites and transactions, or why the event is refused, where h is what stands at its
+// site i and its transaction t, and `told` is what the table told it.
+pub(crate) fn admitted(
     e: Event,
     sites: u32,
     count: u32,
-    told: Told,
-    h: Here,
-    i: usize,
+    told: &Told,
+    h: &Here,
     t: Slot,
-) -> Result<Turn, Refusal>
-    requires { few_versions h.place }
-    ensures { turned result ≡ turn_of e sites count told h i t }
+) -> Result<Action, Refusal>
+    ensures { admitted result ≡ admitted_by e sites count told.now h.now t }
 {
     let a = asked(e)?;
     misplaced(sites, count, e, h.txn.home == e.site)?;
     refusal(a, told.clash, t, h)?;
-    let others = sets::all_but(sites as usize, i);
-    Ok(effect(a, h, others, told.scan, i, t))
+    Ok(a)
 }

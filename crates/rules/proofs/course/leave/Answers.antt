@@ -6,10 +6,10 @@ use Rattle.rules.proofs.course.leave.Goals as goal
 
 pub returns-then-not-is_empty : goal.returns-then-not-is_empty
 returns-then-not-is_empty c =
-    rw (← c.index.ensures.is) (all_posted c.args.i c.args.d.message c.args.d.about c.args.d.readies _ _ c.posted.ensures)
+    rw (← c.index.ensures.is) (all_posted c.args.i c.args.d.now.message c.args.d.now.about c.args.d.now.readies _ _ c.posted.ensures)
 
 pub returns-else-not-is_empty : goal.returns-else-not-is_empty
 returns-else-not-is_empty c =
     rw (← c.index.ensures.is)
-    (nothing-posted c.args.i c.args.d.message c.args.d.about c.args.d.readies _
+    (nothing-posted c.args.i c.args.d.now.message c.args.d.now.about c.args.d.now.readies _
     (sym (c.is_empty.ensures ∙ ap is_empty c.union.ensures) ∙ c.if-not-is_empty.false))

@@ -20,20 +20,20 @@ overflow_cast-view c = omega (arith, count_below _ c.requires)
 pub invariant_of-view : goal.invariant_of-view
 invariant_of-view c = record { fits = count_below _ c.requires }
 
-pub turn_of-requires : goal.turn_of-requires
-turn_of-requires c = versions_below _ c.requires _ (site_at _ c.requires _ _ c.index-i.ensures).0
+pub effect-d-requires : goal.effect-d-requires
+effect-d-requires c = versions_below _ c.requires _ (site_at _ c.requires _ _ c.index-i.ensures).0
 
-pub returns-in_err-d : goal.returns-in_err-d
-returns-in_err-d c =
+pub returns-in_err-a : goal.returns-in_err-a
+returns-in_err-a c =
     let w = rw c.index-2.ensures.is at c.tells-told.ensures in
     let p =
-    turn_taken c.args.s.now c.args.e c.requires _ _ c.index-i.ensures (c.at-t.ensures ∙ c.index.ensures) _ w (Err c.in_err-d.field-0.0)
-    (rw c.index-2.ensures.is at c.in_err-d.ensures) in
+    turn_taken c.args.s.now c.args.e c.requires _ _ c.index-i.ensures (c.at-t.ensures ∙ c.index.ensures) _ w (Err c.in_err-a.field-0.0)
+    (rw c.index-2.ensures.is at c.in_err-a.ensures) in
     grind (arith, common_steps, p)
 
 pub returns : goal.returns
 returns c =
     let w = rw c.index-2.ensures.is at c.tells-told.ensures in
-    rw c.leave.ensures
-    (turn_taken c.args.s.now c.args.e c.requires _ _ c.index-i.ensures (c.at-t.ensures ∙ c.index.ensures) _ w (Ok c.in_ok-d.d)
-    (rw c.index-2.ensures.is at c.in_ok-d.ensures))
+    rw (c.leave.ensures, c.effect-d.ensures, c.all_but-others.ensures, c.index-2.ensures.is, w)
+    (turn_taken c.args.s.now c.args.e c.requires _ _ c.index-i.ensures (c.at-t.ensures ∙ c.index.ensures) _ w (Ok c.in_ok-a.a)
+    (rw c.index-2.ensures.is at c.in_ok-a.ensures))
