@@ -127,10 +127,9 @@ fn home_met(h: Home, here: bool) -> bool
 fn right_home(a: u32, here: bool) -> bool
     ensures { result ≡ home_met (slice_index_or home_table (a - 1) anywhere) here }
 {
-    match HOMES.get(a.saturating_sub(1) as usize) {
-        Some(&h) => home_met(h, here),
-        None => true,
-    }
+    HOMES
+        .get(a.saturating_sub(1) as usize)
+        .is_none_or(|h| home_met(*h, here))
 }
 
 // The refusal, unless the test passes.
@@ -156,15 +155,16 @@ fn receive_refusal(m: Message, h: Here, t: Slot) -> Result<(), Refusal>
     ensures { answer_of result ≡ receive_refusal m h t }
 {
     let v = status_in(&h.row, t.index());
-    let there = demand(lies(m, t, h.place.channel), NoMessage);
     match m {
-        Message::Remote => demand(v == IDLE, WrongStatus).and(there),
-        Message::Ready(_) => demand(v == PRE_COMMIT, WrongStatus)
-            .and(demand(!sets::is_empty(h.txn.missing), WrongMissing))
-            .and(there),
-        Message::Commit => demand(v == PRE_COMMIT, WrongStatus).and(there),
-        Message::Abort => demand(v != COMMITTED && v != ABORTED, WrongStatus).and(there),
+        Message::Remote => demand(v == IDLE, WrongStatus)?,
+        Message::Ready(_) => {
+            demand(v == PRE_COMMIT, WrongStatus)?;
+            demand(!sets::is_empty(h.txn.missing), WrongMissing)?;
+        }
+        Message::Commit => demand(v == PRE_COMMIT, WrongStatus)?,
+        Message::Abort => demand(v != COMMITTED && v != ABORTED, WrongStatus)?,
     }
+    demand(lies(m, t, &h.place.channel), NoMessage)
 }
 
 // What the action itself asks of transaction t. An end of operation is told whether it meets a lock clash at home.
@@ -174,19 +174,21 @@ pub(crate) fn refusal(a: Action, clash: bool, t: Slot, h: Here) -> Result<(), Re
     let v = status_in(&h.row, t.index());
     match a {
         Action::Create => demand(v == START, WrongStatus),
-        Action::BeginOperation { .. } => demand(v == ACTIVE, WrongStatus),
-        Action::EndOperation => demand(v == BLOCKED, WrongStatus).and(demand(!clash, LockClash)),
-        Action::BeginCommit => demand(v == ACTIVE, WrongStatus),
-        Action::EndCommit => demand(v == PRE_COMMIT, WrongStatus).and(demand(
-            sets::is_empty(h.txn.missing),
-            WrongMissing,
-        )),
+        Action::BeginOperation { .. } | Action::BeginCommit => demand(v == ACTIVE, WrongStatus),
+        Action::EndOperation => {
+            demand(v == BLOCKED, WrongStatus)?;
+            demand(!clash, LockClash)
+        }
+        Action::EndCommit => {
+            demand(v == PRE_COMMIT, WrongStatus)?;
+            demand(sets::is_empty(h.txn.missing), WrongMissing)
+        }
         Action::LocalAbort => demand(v == BLOCKED, WrongStatus),
         Action::Receive(m) => receive_refusal(m, h, t),
         Action::ExecuteRemote => demand(!sets::is_empty(h.place.queue) && h.place.remove, NoScan),
-        Action::Discard(m) => demand(v == ABORTED, WrongStatus).and(demand(
-            lies(m, t, h.place.channel),
-            NoMessage,
-        )),
+        Action::Discard(m) => {
+            demand(v == ABORTED, WrongStatus)?;
+            demand(lies(m, t, &h.place.channel), NoMessage)
+        }
     }
 }

@@ -10,8 +10,8 @@ use crate::slot::Slot;
 use protocol::{Channel, Message, Place, SITES, Txn};
 
 // Does the message about t lie in the channel?
-pub(crate) fn lies(m: Message, t: Slot, c: Channel) -> bool
-    ensures { result ≡ lies m t c }
+pub(crate) fn lies(m: Message, t: Slot, c: &Channel) -> bool
+    ensures { result ≡ lies m t c.now }
 {
     match m {
         Message::Remote => sets::has(c.remote, t.index()),

@@ -45,15 +45,12 @@ pub(crate) fn blank() -> State
         missing: 0,
         noted: zeros,
     };
-    let rows = [row; SITES];
-    let places = [place; SITES];
-    let txns = [txn; 32];
     State {
         sites: 0,
         count: 0,
-        rows,
-        places,
-        txns,
+        rows: [row; SITES],
+        places: [place; SITES],
+        txns: [txn; 32],
     }
 }
 

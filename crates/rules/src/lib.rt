@@ -86,26 +86,25 @@ pub fn setup_of(sites: u32, n: usize, entries: [Entry; 32]) -> Answered<()>
 
 // What the event returns: how many messages it sent, or its refusal, and the state after it.
 #[tactic(auto, using(laws::specs::Enabled::out_step))]
-pub fn step(s: State, e: Event) -> Answered<u32>
+pub fn step(mut s: State, e: Event) -> Answered<u32>
     ensures { stepped result ≡ step s e }
 {
-    let mut state = s;
     let outcome = if in_range(&s) {
-        taken(&mut state, e)
+        taken(&mut s, e)
     } else {
         Err(Refusal::OutOfRange)
     };
-    Answered { outcome, state }
+    Answered { outcome, state: s }
 }
 
 // Why a run of n events with room for so many answers is refused.
 #[tactic(auto, unfolding(protocol::specs::Check::first_of))]
-fn run_refusal(n: usize, room: usize, s: State) -> Result<(), Refusal>
-    ensures { answer_of result ≡ run_refusal n room s }
+fn run_refusal(n: usize, room: usize, s: &State) -> Result<(), Refusal>
+    ensures { answer_of result ≡ run_refusal n room s.now }
 {
     demand(n <= 1024, Refusal::TooManyEvents)?;
     demand(n <= room, Refusal::NoRoom)?;
-    demand(in_range(&s), Refusal::OutOfRange)
+    demand(in_range(s), Refusal::OutOfRange)
 }
 
 // Takes the events, seven numbers each, one after the other, past refused ones, and writes one answer an event. A run
@@ -113,7 +112,7 @@ fn run_refusal(n: usize, room: usize, s: State) -> Result<(), Refusal>
 pub fn run(s: State, events: &[u32], answers: &mut [u8]) -> Answered<u32>
     ensures { (ran result ≡ run s (events_of events.now) (length answers.old)) × (answers.new ≡ answers_after s (events_of events.now) answers.old) }
 {
-    match run_refusal(events.len() / 7, answers.len(), s) {
+    match run_refusal(events.len() / 7, answers.len(), &s) {
         Ok(()) => performed(s, events, answers),
         Err(refusal) => Answered {
             outcome: Err(refusal),
