@@ -28,48 +28,30 @@ pub const ABORTED: u8 = 6;
 // it is the number.
 #[derive(Clone, Copy, Debug, PartialEq, Eq)]
 pub enum Refusal {
-    OutOfRange,
-    NoAction,
-    NoSite,
-    NoTransaction,
-    IllFilled,
-    WrongHome,
-    WrongStatus,
-    WrongMissing,
-    NoMessage,
-    LockClash,
-    NoScan,
-    WrongSites,
-    WrongCount,
-    NoHome,
-    EqualPriorities,
-    TooManyEvents,
-    NoRoom,
+    OutOfRange = 1,
+    NoAction = 2,
+    NoSite = 3,
+    NoTransaction = 4,
+    IllFilled = 5,
+    WrongHome = 6,
+    WrongStatus = 7,
+    WrongMissing = 8,
+    NoMessage = 9,
+    LockClash = 10,
+    NoScan = 11,
+    WrongSites = 21,
+    WrongCount = 22,
+    NoHome = 23,
+    EqualPriorities = 25,
+    TooManyEvents = 31,
+    NoRoom = 32,
 }
 
 impl From<Refusal> for u8 {
     ghost from_gives = { λ r n. n ≡ number_of r };
 
     fn from(r: Refusal) -> u8 {
-        match r {
-            Refusal::OutOfRange => 1,
-            Refusal::NoAction => 2,
-            Refusal::NoSite => 3,
-            Refusal::NoTransaction => 4,
-            Refusal::IllFilled => 5,
-            Refusal::WrongHome => 6,
-            Refusal::WrongStatus => 7,
-            Refusal::WrongMissing => 8,
-            Refusal::NoMessage => 9,
-            Refusal::LockClash => 10,
-            Refusal::NoScan => 11,
-            Refusal::WrongSites => 21,
-            Refusal::WrongCount => 22,
-            Refusal::NoHome => 23,
-            Refusal::EqualPriorities => 25,
-            Refusal::TooManyEvents => 31,
-            Refusal::NoRoom => 32,
-        }
+        r as u8
     }
 }
 

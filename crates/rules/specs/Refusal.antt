@@ -14,8 +14,8 @@ use Rattle.protocol.specs.declared.Action.TheVariants.{Create, BeginOperation, E
 use Rattle.protocol.specs.declared.Event.{Event}
 use Rattle.protocol.specs.declared.Refusal.{Refusal}
 use Rattle.protocol.specs.declared.Refusal.TheVariants.{NoAction}
-use Rattle.rules.specs.declared.answer.Home.{Home}
-use Rattle.rules.specs.declared.answer.Home.TheVariants as home
+use Rattle.rules.specs.declared.answer.Where.{Where}
+use Rattle.rules.specs.declared.answer.Where.TheVariants as home
 use Rattle.rules.specs.declared.Here.{Here}
 
 -- which action the event's number asks for, or its refusal
@@ -23,7 +23,7 @@ abbrev pub asked_by : Event → Result Action Refusal
 asked_by e = cond (no_action e) (Err NoAction) (Ok (action_of e))
 
 -- where an action is taken, as the table of required homes has it
-abbrev pub home_number : Home → ℕ
+abbrev pub home_number : Where → ℕ
 home_number home.Either = anywhere
 home_number home.Home = home_only
 home_number home.Away = away_only

@@ -8,36 +8,39 @@ use crate::Here;
 use crate::channel::lies;
 use crate::row::status_in;
 use crate::slot::Slot;
-use protocol::Refusal::{LockClash, NoMessage, NoScan, WrongMissing, WrongStatus};
+use protocol::Refusal::{
+    IllFilled, LockClash, NoAction, NoMessage, NoScan, NoSite, NoTransaction, WrongHome,
+    WrongMissing, WrongStatus,
+};
 use protocol::{
     ABORTED, ACTIVE, Action, BLOCKED, COMMITTED, Event, IDLE, Message, PRE_COMMIT, Refusal, START,
 };
 
 // Where an action is taken: anywhere, at the transaction's home, or away from it.
 #[derive(Clone, Copy)]
-enum Home {
+enum Where {
     Either,
     Home,
     Away,
 }
 
 // The required home of each action, 1 to 12.
-const HOMES: [Home; 12] = [
-    Home::Home,
-    Home::Home,
-    Home::Either,
-    Home::Home,
-    Home::Home,
-    Home::Home,
-    Home::Away,
-    Home::Home,
-    Home::Away,
-    Home::Away,
-    Home::Either,
-    Home::Either,
+const HOMES: [Where; 12] = [
+    Where::Home,
+    Where::Home,
+    Where::Either,
+    Where::Home,
+    Where::Home,
+    Where::Home,
+    Where::Away,
+    Where::Home,
+    Where::Away,
+    Where::Away,
+    Where::Either,
+    Where::Either,
 ];
 
-// The message of a kind. Kinds other than 1 to 4 are refused before it is asked for.
+// The message of a kind. Any kind but 1 to 4 gives remote, and its event is refused as ill filled.
 #[tactic(auto, unfolding(protocol::specs::Answer::message_of))]
 fn message_of(kind: u32, from: u32) -> Message
     ensures { result ≡ message_of kind from }
@@ -71,7 +74,7 @@ pub(crate) fn asked(e: Event) -> Result<Action, Refusal>
         10 => Ok(Action::Receive(Message::Abort)),
         11 => Ok(Action::ExecuteRemote),
         12 => Ok(Action::Discard(message_of(e.kind, e.from))),
-        0 | 13..=u32::MAX => Err(Refusal::NoAction),
+        0 | 13..=u32::MAX => Err(NoAction),
     }
 }
 
@@ -112,13 +115,13 @@ fn ill_filled(sites: u32, e: Event) -> bool
 
 // Is the required home h met, where `here` says whether the site is the transaction's home?
 #[tactic(auto, unfolding(protocol::specs::Answer::home_met))]
-fn home_met(h: Home, here: bool) -> bool
+fn home_met(h: Where, here: bool) -> bool
     ensures { result ≡ home_met (home_number h) here }
 {
     match h {
-        Home::Either => true,
-        Home::Home => here,
-        Home::Away => !here,
+        Where::Either => true,
+        Where::Home => here,
+        Where::Away => !here,
     }
 }
 
@@ -127,10 +130,9 @@ fn home_met(h: Home, here: bool) -> bool
 fn right_home(a: u32, here: bool) -> bool
     ensures { result ≡ home_met (slice_index_or home_table (a - 1) anywhere) here }
 {
-    match HOMES.get(a.saturating_sub(1) as usize) {
-        Some(&h) => home_met(h, here),
-        None => true,
-    }
+    HOMES
+        .get(a.saturating_sub(1) as usize)
+        .is_none_or(|h| home_met(*h, here))
 }
 
 // The refusal, unless the test passes.
@@ -145,10 +147,10 @@ pub(crate) fn demand(met: bool, refusal: Refusal) -> Result<(), Refusal>
 pub(crate) fn misplaced(sites: u32, count: u32, e: Event, here: bool) -> Result<(), Refusal>
     ensures { answer_of result ≡ misplaced_by sites count here e }
 {
-    demand(e.site < sites, Refusal::NoSite)?;
-    demand(e.txn < count, Refusal::NoTransaction)?;
-    demand(!ill_filled(sites, e), Refusal::IllFilled)?;
-    demand(right_home(e.action, here), Refusal::WrongHome)
+    demand(e.site < sites, NoSite)?;
+    demand(e.txn < count, NoTransaction)?;
+    demand(!ill_filled(sites, e), IllFilled)?;
+    demand(right_home(e.action, here), WrongHome)
 }
 
 // What a receive asks.
@@ -156,15 +158,16 @@ fn receive_refusal(m: Message, h: &Here, t: Slot) -> Result<(), Refusal>
     ensures { answer_of result ≡ receive_refusal m h.now t }
 {
     let v = status_in(&h.row, t.index());
-    let there = demand(lies(m, t, &h.place.channel), NoMessage);
     match m {
-        Message::Remote => demand(v == IDLE, WrongStatus).and(there),
-        Message::Ready(_) => demand(v == PRE_COMMIT, WrongStatus)
-            .and(demand(!sets::is_empty(h.txn.missing), WrongMissing))
-            .and(there),
-        Message::Commit => demand(v == PRE_COMMIT, WrongStatus).and(there),
-        Message::Abort => demand(v != COMMITTED && v != ABORTED, WrongStatus).and(there),
+        Message::Remote => demand(v == IDLE, WrongStatus)?,
+        Message::Ready(_) => {
+            demand(v == PRE_COMMIT, WrongStatus)?;
+            demand(!sets::is_empty(h.txn.missing), WrongMissing)?;
+        }
+        Message::Commit => demand(v == PRE_COMMIT, WrongStatus)?,
+        Message::Abort => demand(v != COMMITTED && v != ABORTED, WrongStatus)?,
     }
+    demand(lies(m, t, &h.place.channel), NoMessage)
 }
 
 // What the action itself asks of transaction t. An end of operation is told whether it meets a lock clash at home.
@@ -174,19 +177,21 @@ pub(crate) fn refusal(a: Action, clash: bool, t: Slot, h: &Here) -> Result<(), R
     let v = status_in(&h.row, t.index());
     match a {
         Action::Create => demand(v == START, WrongStatus),
-        Action::BeginOperation { .. } => demand(v == ACTIVE, WrongStatus),
-        Action::EndOperation => demand(v == BLOCKED, WrongStatus).and(demand(!clash, LockClash)),
-        Action::BeginCommit => demand(v == ACTIVE, WrongStatus),
-        Action::EndCommit => demand(v == PRE_COMMIT, WrongStatus).and(demand(
-            sets::is_empty(h.txn.missing),
-            WrongMissing,
-        )),
+        Action::BeginOperation { .. } | Action::BeginCommit => demand(v == ACTIVE, WrongStatus),
+        Action::EndOperation => {
+            demand(v == BLOCKED, WrongStatus)?;
+            demand(!clash, LockClash)
+        }
+        Action::EndCommit => {
+            demand(v == PRE_COMMIT, WrongStatus)?;
+            demand(sets::is_empty(h.txn.missing), WrongMissing)
+        }
         Action::LocalAbort => demand(v == BLOCKED, WrongStatus),
         Action::Receive(m) => receive_refusal(m, h, t),
         Action::ExecuteRemote => demand(!sets::is_empty(h.place.queue) && h.place.remove, NoScan),
-        Action::Discard(m) => demand(v == ABORTED, WrongStatus).and(demand(
-            lies(m, t, &h.place.channel),
-            NoMessage,
-        )),
+        Action::Discard(m) => {
+            demand(v == ABORTED, WrongStatus)?;
+            demand(lies(m, t, &h.place.channel), NoMessage)
+        }
     }
 }

@@ -35,7 +35,7 @@ impl View<'_> {
         Told {
             clash: e.action == END_OPERATION
                 && h.txn.home as usize == self.site
-                && self.clash(h.row, t),
+                && self.clash(&h.row, t),
             scan: if e.action == EXECUTE_REMOTE {
                 self.scan_all(begun(h))
             } else {

@@ -1,5 +1,5 @@
 // Channels: whether a message lies there, taking one, and sending.
-#![tactic(auto, unfolding(protocol::specs::Channel::lies, protocol::specs::Channel::taken, protocol::specs::Channel::put,))]
+#![tactic(auto, unfolding(protocol::specs::Channel::lies, protocol::specs::Channel::taken, protocol::specs::Channel::put))]
 
 ghost use Rattle.std.specs.Prelude.{◌≡◌, cond};
 ghost use Rattle.sets.specs.Set.{has, none, all_but};

@@ -1,6 +1,6 @@
 // Below setup: the empty state, an entry of the lent table copied into a state, and the state judged.
 ghost use Rattle.std.specs.Prelude.{◌≡◌};
-ghost use Rattle.protocol.specs.State.{empty_state, txn_in};
+ghost use Rattle.protocol.specs.State.{empty_channel, empty_state, txn_in};
 ghost use Rattle.protocol.specs.Refusals.{answer_of, started};
 ghost use Rattle.rules.specs.Copied.{from_entry, started_row, started_rows, setup_refusal, judged_of};
 
@@ -10,6 +10,18 @@ use protocol::{
     Answered, Channel, Entry, IDLE, Log, Place, Refusal, Row, SITES, START, State, Txn,
 };
 use std::array;
+
+// A channel in which no message lies.
+fn silent() -> Channel
+    ensures { result ≡ empty_channel }
+{
+    Channel {
+        remote: 0,
+        ready: [0u32; 32],
+        commit: 0,
+        abort: 0,
+    }
+}
 
 // The empty state.
 #[tactic(auto, unfolding(protocol::specs::State::empty_state))]
@@ -22,18 +34,12 @@ pub(crate) fn blank() -> State
         length: 0,
         entries: zeros,
     };
-    let channel = Channel {
-        remote: 0,
-        ready: [0u32; 32],
-        commit: 0,
-        abort: 0,
-    };
     let place = Place {
         queue: 0,
         remove: false,
         log,
         versions: zeros,
-        channel,
+        channel: silent(),
     };
     let txn = Txn {
         home: 0,
@@ -45,15 +51,12 @@ pub(crate) fn blank() -> State
         missing: 0,
         noted: zeros,
     };
-    let rows = [row; SITES];
-    let places = [place; SITES];
-    let txns = [txn; 32];
     State {
         sites: 0,
         count: 0,
-        rows,
-        places,
-        txns,
+        rows: [row; SITES],
+        places: [place; SITES],
+        txns: [txn; 32],
     }
 }
 

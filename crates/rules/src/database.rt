@@ -1,6 +1,6 @@
 // The database under each site: what a transaction holds, what clashes and conflicts, the end of an operation, and
 // commit here.
-#![tactic(auto, unfolding(protocol::specs::Database::executes, protocol::specs::Database::held_reads, protocol::specs::Database::held_writes, protocol::specs::Database::held, protocol::specs::Database::clashes_with, protocol::specs::Database::conflicts_with, protocol::specs::Database::woken, protocol::specs::Database::appended, protocol::specs::Database::stored, protocol::specs::Database::ended,))]
+#![tactic(auto, unfolding(protocol::specs::Database::executes, protocol::specs::Database::held_reads, protocol::specs::Database::held_writes, protocol::specs::Database::held, protocol::specs::Database::clashes_with, protocol::specs::Database::conflicts_with, protocol::specs::Database::woken, protocol::specs::Database::appended, protocol::specs::Database::stored, protocol::specs::Database::ended))]
 
 ghost use Rattle.std.specs.Prelude.{◌≡◌};
 ghost use Rattle.protocol.specs.Database.{executes, held_reads, held_writes, held, clashes_with, conflicts_with, clash, conflicts, noted, ended, woken, appended, stored};
@@ -60,23 +60,23 @@ fn conflicts_with(x: &Txn, y: &Txn, i: usize, v: u8) -> bool
 
 impl View<'_> {
     // Does the pending operation of t meet a lock clash at the site, whose statuses are r?
-    pub(crate) fn clash(&self, r: Row, t: Slot) -> bool
-        ensures { result ≡ clash self.now.count self.now.txns.now self.now.site r t }
+    pub(crate) fn clash(&self, r: &Row, t: Slot) -> bool
+        ensures { result ≡ clash self.now.count self.now.txns.now self.now.site r.now t }
     {
         let x = &self.txns[t.index()];
         (0..self.count).any(|u| {
-            u != t.index() && clashes_with(x, &self.txns[u], self.site, status_in(&r, u))
+            u != t.index() && clashes_with(x, &self.txns[u], self.site, status_in(r, u))
         })
     }
 
     // The conflicts of t at the site, whose statuses are r.
-    pub(crate) fn conflicts(&self, r: Row, t: Slot) -> u32
-        ensures { result ≡ conflicts self.now.count self.now.txns.now self.now.site r t }
+    pub(crate) fn conflicts(&self, r: &Row, t: Slot) -> u32
+        ensures { result ≡ conflicts self.now.count self.now.txns.now self.now.site r.now t }
     {
         let x = &self.txns[t.index()];
         (0..self.count)
             .filter(|&u| {
-                u != t.index() && conflicts_with(x, &self.txns[u], self.site, status_in(&r, u))
+                u != t.index() && conflicts_with(x, &self.txns[u], self.site, status_in(r, u))
             })
             .fold(0, sets::with)
     }
@@ -123,19 +123,14 @@ pub(crate) fn woken(p: Place) -> Place
 }
 
 // The log with t at its end.
-fn appended(l: Log, t: Slot) -> Log
+fn appended(mut l: Log, t: Slot) -> Log
     ensures { result ≡ appended l t }
 {
     if l.length < 32 {
-        let mut entries = l.entries;
-        entries[l.length as usize] = t.index() as u8;
-        Log {
-            length: l.length + 1,
-            entries,
-        }
-    } else {
-        l
+        l.entries[l.length as usize] = t.index() as u8;
+        l.length += 1;
     }
+    l
 }
 
 // Site p once t, which writes these objects, has committed there.

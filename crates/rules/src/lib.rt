@@ -87,16 +87,15 @@ pub fn setup_of(sites: u32, n: usize, entries: [Entry; 32]) -> Answered<()>
 
 // What the event returns: how many messages it sent, or its refusal, and the state after it.
 #[tactic(auto, using(laws::specs::Enabled::out_step))]
-pub fn step(s: State, e: Event) -> Answered<u32>
+pub fn step(mut s: State, e: Event) -> Answered<u32>
     ensures { stepped result ≡ step s e }
 {
-    let mut state = s;
     let outcome = if in_range(&s) {
-        taken(&mut state, e)
+        taken(&mut s, e)
     } else {
         Err(Refusal::OutOfRange)
     };
-    Answered { outcome, state }
+    Answered { outcome, state: s }
 }
 
 // Why a run of n events with room for so many answers is refused.

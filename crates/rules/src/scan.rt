@@ -1,5 +1,5 @@
 // The scan: the queue of a site taken by priority.
-#![tactic(auto, unfolding(protocol::specs::Scan::makes_wait, protocol::specs::Scan::waits, protocol::specs::Scan::submits, protocol::specs::Scan::scan_with, protocol::specs::Scan::scan_one,))]
+#![tactic(auto, unfolding(protocol::specs::Scan::makes_wait, protocol::specs::Scan::waits, protocol::specs::Scan::submits, protocol::specs::Scan::scan_with, protocol::specs::Scan::scan_one))]
 
 ghost use Rattle.std.specs.Prelude.{◌≡◌};
 ghost use Rattle.protocol.specs.Scan.{makes_wait, waits, asked, submits, must_wait, scan_with, scan_one, scan_all};
@@ -30,21 +30,21 @@ fn waits(t: Slot, c: Scan) -> Scan
 
 impl View<'_> {
     // Does one of them, the conflicts of t, make t wait?
-    fn must_wait(&self, r: Row, t: Slot, them: u32) -> bool
-        ensures { result ≡ must_wait self.now.count self.now.txns.now self.now.site r t them }
+    fn must_wait(&self, r: &Row, t: Slot, them: u32) -> bool
+        ensures { result ≡ must_wait self.now.count self.now.txns.now self.now.site r.now t them }
     {
         let x = &self.txns[t.index()];
         (0..self.count).any(|u| {
-            sets::has(them, u) && makes_wait(x, &self.txns[u], self.site, status_in(&r, u))
+            sets::has(them, u) && makes_wait(x, &self.txns[u], self.site, status_in(r, u))
         })
     }
 
     // Those of them that are in pre_commit.
-    fn asked(&self, r: Row, them: u32) -> u32
-        ensures { result ≡ asked self.now.count r them }
+    fn asked(&self, r: &Row, them: u32) -> u32
+        ensures { result ≡ asked self.now.count r.now them }
     {
         (0..self.count)
-            .filter(|&u| sets::has(them, u) && status_in(&r, u) == PRE_COMMIT)
+            .filter(|&u| sets::has(them, u) && status_in(r, u) == PRE_COMMIT)
             .fold(0, sets::with)
     }
 
@@ -56,7 +56,7 @@ impl View<'_> {
         Scan {
             rest: sets::without(c.rest, t.index()),
             row: row_with(Row { status }, t, BLOCKED),
-            aborts: sets::union(c.aborts, self.asked(c.row, them)),
+            aborts: sets::union(c.aborts, self.asked(&c.row, them)),
             readies: sets::with(c.readies, t.index()),
             ..c
         }
@@ -66,7 +66,7 @@ impl View<'_> {
     fn scan_with(&self, t: Slot, them: u32, c: Scan) -> Scan
         ensures { result ≡ scan_with self.now.count self.now.txns.now self.now.site t them c }
     {
-        if self.must_wait(c.row, t, them) {
+        if self.must_wait(&c.row, t, them) {
             waits(t, c)
         } else {
             self.submits(t, them, c)
@@ -77,7 +77,7 @@ impl View<'_> {
     fn scan_one(&self, t: Slot, c: Scan) -> Scan
         ensures { result ≡ scan_one self.now.count self.now.txns.now self.now.site t c }
     {
-        self.scan_with(t, self.conflicts(c.row, t), c)
+        self.scan_with(t, self.conflicts(&c.row, t), c)
     }
 
     // The whole rest of the queue: the highest is taken, and then what is left of it.

@@ -116,6 +116,15 @@ impl<'a> Cursor<'a> {
         }
     }
 
+    // One more of n lines of a kind is there: more of them are wanted, or what comes next.
+    #[tactic(auto, unfolding(crate::specs::Format::moved))]
+    fn one_more(&self, n: u32, more: Want, next: Want) -> Reading
+        ensures { result ≡ moved self.now.m (after (self.now.m.done + 1) n more next) (self.now.m.done + 1) }
+    {
+        let done = self.m.done + 1;
+        self.moved(after(done, n, more, next), done)
+    }
+
     // The number of sites.
     #[tactic(auto, unfolding(crate::specs::Format::sites_line, crate::specs::Format::moved))]
     fn sites_line(&self, n: Option<u32>) -> Reading
@@ -160,9 +169,8 @@ impl<'a> Cursor<'a> {
     fn priority_line(&self, n: Option<u32>) -> Reading
         ensures { result ≡ priority_line self.now.m n }
     {
-        let done = self.m.done + 1;
         match n {
-            Some(_) => self.moved(after(done, self.m.count, Want::Home, Want::Events), done),
+            Some(_) => self.one_more(self.m.count, Want::Home, Want::Events),
             None => faulted(self.m),
         }
     }
@@ -186,9 +194,8 @@ impl<'a> Cursor<'a> {
     fn event_line(&self, f: Option<[u32; 7]>) -> Reading
         ensures { result ≡ event_line self.now.m f }
     {
-        let done = self.m.done + 1;
         match f {
-            Some(_) => self.moved(after(done, self.m.events, Want::Event, Want::Nothing), done),
+            Some(_) => self.one_more(self.m.events, Want::Event, Want::Nothing),
             None => faulted(self.m),
         }
     }
