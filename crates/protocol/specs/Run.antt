@@ -1,11 +1,23 @@
 -- 01, "A run": its refusals, one answer an event, the sum of the messages and the last state.
-use Rattle.std.specs.Prelude.{ℕ, ◌+◌, not, cond, List, [], ◌∷◌, ◌++◌, length, drop, ◌==◌, nat_lt}
+use Rattle.std.specs.Prelude.{ℕ, ◌+◌, not, cond, List, [], ◌∷◌, ◌++◌, length, drop, ◌==◌, nat_lt, slice_index_or}
 use Rattle.protocol.specs.State.{max_events}
 use Rattle.protocol.specs.Check.{Check, given, first_of}
 use Rattle.protocol.specs.Range.{in_range}
 use Rattle.protocol.specs.Answer.{step}
 use Rattle.protocol.specs.declared.Event.{Event}
 use Rattle.protocol.specs.declared.State.{State}
+
+-- "An event has seven fields": the event of seven numbers
+abbrev pub event_in : List ℕ → Event
+event_in l = record {
+  action = slice_index_or l 0 0;
+  site = slice_index_or l 1 0;
+  txn = slice_index_or l 2 0;
+  kind = slice_index_or l 3 0;
+  from = slice_index_or l 4 0;
+  reads = slice_index_or l 5 0;
+  writes = slice_index_or l 6 0;
+}
 
 -- "An event has seven fields: action, site, transaction, kind, from, reads, writes": a list of numbers as events, seven
 -- numbers an event. A tail of fewer than seven is no event; that is our reading.

@@ -1,9 +1,10 @@
 // What document 01 and Figure 2 speak of, as types by value. The definitions over these types stand in specs/, the code
-// that does what they say in the crate rules; here runs only the number of a refusal.
+// that does what they say in the crate rules; here runs only what reads an event of numbers and a refusal as one.
 #![tactic(auto)]
 
 ghost use Rattle.std.specs.Prelude.{◌≡◌};
 ghost use Rattle.protocol.specs.Refusals.{number_of};
+ghost use Rattle.protocol.specs.Run.{event_in};
 
 // How many sites a state has room for: the most that a setup may ask for. The definitions call it max_sites.
 pub const SITES: usize = 8;
@@ -50,6 +51,7 @@ pub enum Refusal {
 impl From<Refusal> for u8 {
     ghost from_gives = { λ r n. n ≡ number_of r };
 
+    // Its number in the table.
     fn from(r: Refusal) -> u8 {
         r as u8
     }
@@ -141,6 +143,24 @@ pub struct Event {
     pub from: u32,
     pub reads: u32,
     pub writes: u32,
+}
+
+impl From<[u32; 7]> for Event {
+    ghost from_gives = { λ l e. e ≡ event_in l };
+
+    // The event of its seven fields, in their order.
+    fn from(numbers: [u32; 7]) -> Event {
+        let [action, site, txn, kind, from, reads, writes] = numbers;
+        Event {
+            action,
+            site,
+            txn,
+            kind,
+            from,
+            reads,
+            writes,
+        }
+    }
 }
 
 // A message is one of four kinds; a ready carries the site that it came from.

@@ -53,6 +53,7 @@ fn name_at<'a>(rt: &impl Env, i: usize, space: &'a mut [u8]) -> Option<&'a [u8]>
     }
 }
 
+// Tells of every scenario that is named, by the number of its argument, and how many there were.
 fn main(rt: HostRuntime) -> io::Result<()> {
     let mut differ: u64 = 0;
     let mut count: u64 = 0;

@@ -7,7 +7,7 @@ use mathlib.Core.List.{List, [], ◌∷◌}
 use native.Mathlib.Omega.{arith}
 use lib.ListN.{length, drop}
 use Rattle.protocol.specs.Run.{events_of}
-use Rattle.rules.specs.Events.{event_in}
+use Rattle.protocol.specs.Run.{event_in}
 
 abbrev pub chunks : List ℕ → List (List ℕ)
 chunks l = first_chunks 7 (length l / 7) l

@@ -1,22 +1,9 @@
--- The events of a run: the event of seven numbers, and why a run is refused.
-use Rattle.std.specs.Prelude.{ℕ, not, List, [], ◌∷◌, nat_lt, slice_index_or}
+-- Why a run is refused.
+use Rattle.std.specs.Prelude.{ℕ, not, [], ◌∷◌, nat_lt}
 use Rattle.protocol.specs.State.{max_events}
 use Rattle.protocol.specs.Check.{given, first_of}
 use Rattle.protocol.specs.Range.{in_range}
-use Rattle.protocol.specs.declared.Event.{Event}
 use Rattle.protocol.specs.declared.State.{State}
-
--- seven numbers an event
-abbrev pub event_in : List ℕ → Event
-event_in l = record {
-  action = slice_index_or l 0 0;
-  site = slice_index_or l 1 0;
-  txn = slice_index_or l 2 0;
-  kind = slice_index_or l 3 0;
-  from = slice_index_or l 4 0;
-  reads = slice_index_or l 5 0;
-  writes = slice_index_or l 6 0;
-}
 
 -- why a run of n events with so much room for answers is refused, or 0: `run_answer` of document 01, of which the code knows
 -- the events by their number alone (proofs/Running.antt)

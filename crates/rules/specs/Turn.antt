@@ -2,7 +2,7 @@
 -- its transaction, and the messages that it sends. The table of transactions is read by a lock clash and by a scan alone.
 -- That the parts, put back, make the state that document 01 has is shown beside the proofs.
 use Rattle.std.specs.Prelude.{ℕ, ◌+◌, ◌*◌, ◌<◌, false, true, cond, ◌&&◌, List, Result, Ok, Err, ◌==◌, nat_lt}
-use Rattle.sets.specs.Set.{none, with, without, all_but, size}
+use Rattle.sets.specs.Set.{none, with, without, size}
 use Rattle.protocol.specs.State.{active, blocked, precommit, committed, aborted, row_at, place_at, txn_at, version_in, row_with, with_row, with_place, with_txn, with_queue, with_pending, with_missing}
 use Rattle.protocol.specs.Database.{clash, ended, woken, stored}
 use Rattle.protocol.specs.Channel.{received, multicast, ready_home}

@@ -24,7 +24,7 @@ enum Where {
     Away,
 }
 
-// The required home of each action, 1 to 12.
+// The required home of each action, 1 to 12, in the table that document 01 asks for.
 const HOMES: [Where; 12] = [
     Where::Home,
     Where::Home,

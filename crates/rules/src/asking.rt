@@ -9,7 +9,8 @@ use crate::view::View;
 use crate::{Here, Told};
 use protocol::{Event, Scan};
 
-// The numbers of the actions that ask the table: an end of operation, at home, and a scan.
+// The numbers of the actions that ask the table: an end of operation, at home, and a scan. The event goes by its number, as
+// it may yet be refused.
 const END_OPERATION: u32 = 3;
 
 const EXECUTE_REMOTE: u32 = 11;

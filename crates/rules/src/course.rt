@@ -7,7 +7,6 @@ ghost use Rattle.protocol.specs.Refusals.{stepped, ran};
 ghost use Rattle.rules.specs.Turn.{after_turn};
 
 use crate::channel::posted;
-use crate::events::event_in;
 use crate::figure::effect;
 use crate::slot::Slot;
 use crate::stepping::{admitted, index};
@@ -62,7 +61,7 @@ pub(crate) fn performed(s: State, events: &[u32], answers: &mut [u8]) -> Answere
     let mut state = s;
     let mut sent = 0;
     for (k, chunk) in chunks.iter().enumerate() {
-        answers[k] = match taken(&mut state, event_in(*chunk)) {
+        answers[k] = match taken(&mut state, Event::from(*chunk)) {
             Ok(n) => {
                 sent += n;
                 0

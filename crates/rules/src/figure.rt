@@ -22,7 +22,7 @@ fn with_status(h: Here, t: Slot, v: u8) -> Here
     }
 }
 
-// What an event leaves that sends nothing.
+// What an event leaves that sends nothing: a message about no transaction, whichever it is.
 fn quiet(here: Here) -> Turn
     ensures { result ≡ quiet here }
 {

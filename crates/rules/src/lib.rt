@@ -15,7 +15,6 @@ pub(crate) mod channel;
 pub(crate) mod copied;
 pub(crate) mod course;
 pub(crate) mod database;
-pub(crate) mod events;
 pub(crate) mod figure;
 pub(crate) mod order;
 pub(crate) mod range;

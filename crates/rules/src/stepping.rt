@@ -7,7 +7,8 @@ use crate::slot::Slot;
 use crate::{Here, Told};
 use protocol::{Action, Event, Refusal};
 
-// k where it is below n, else 0: an index that is in place whatever an event names.
+// k where it is below n, else 0: an index that is in place whatever an event names, which is refused later where it names
+// no place.
 pub(crate) fn index(k: u32, n: u32) -> usize
     ensures { result ≡ index_of k n }
 {

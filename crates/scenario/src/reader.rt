@@ -298,7 +298,8 @@ impl<'a> Cursor<'a> {
     }
 }
 
-// Reads a whole text. What stands after the last line feed is nothing, or a line at fault.
+// Reads a whole text. What stands after the last line feed is nothing, or a line at fault. Where the next line begins is
+// known when the one before it has been read.
 pub fn read(text: &[u8], homes: &mut [u32], numbers: &mut [u32]) -> Reading
     ensures { (result ≡ (read_into homes.old numbers.old text.now).reading) × (homes.new ≡ (read_into homes.old numbers.old text.now).homes) × (numbers.new ≡ (read_into homes.old numbers.old text.now).numbers) }
 {

@@ -36,7 +36,7 @@ loop-k-preserved c =
     let answer : new.answers ≡ answer_of r =
     elim new.branch [
       | in-Ok w ↦ rw w.in-Ok.is w.answers-is
-      | in-Err w ↦ rw w.in-Err.is (w.answers-is ∙ w.from.ensures)
+      | in-Err w ↦ rw w.in-Err.is (w.answers-is ∙ w.from-in-Err.ensures)
     ] in
     record {
       few = omega (arith, l.invariant.few, few_sent _ _ _ c.taken.ensures);
@@ -45,7 +45,7 @@ loop-k-preserved c =
           (going_turned _ _ _ l.k l.state l.sent l.answers _ _ l.invariant.going
           (events_from c.args.events.now l.k (omega (arith, c.as_chunks.ensures.front_len)))
           (omega (arith, c.requires.2, c.as_chunks.ensures.front_len))
-          (c.taken.ensures ∙ ap (step l.state) (rw c.as_chunks.ensures.front at c.event_in.ensures)));
+          (c.taken.ensures ∙ ap (step l.state) (rw c.as_chunks.ensures.front at c.from.ensures)));
     }
 
 pub returns : goal.returns
