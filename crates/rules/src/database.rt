@@ -18,7 +18,7 @@ fn executes(v: u8) -> bool
     matches!(v, ACTIVE | BLOCKED | PRE_COMMIT)
 }
 
-// What transaction x of status v holds for reading at site i.
+// What transaction x of status v holds for reading at site i. The three go apart here, as in the definitions.
 fn held_reads(x: &Txn, i: usize, v: u8) -> u32
     ensures { result ≡ held_reads x.now i v }
 {

@@ -33,7 +33,7 @@ use protocol::{Answered, Entry, Event, Message, Place, Refusal, Row, Scan, State
 use std::array;
 
 // What an event reads of the state and can change there, but for the channels of other sites: the statuses at its site, what
-// else belongs to the site, and its transaction.
+// else belongs to the site, and its transaction. The number of the transaction goes beside it, as in the definitions.
 #[derive(Clone, Copy)]
 pub(crate) struct Here {
     pub row: Row,

@@ -51,7 +51,8 @@ fn event_of(line: &[u8]) -> Option<[u32; 7]>
     text::seven(line.strip_prefix(b"event=")?)
 }
 
-// Stores x at place k, where the list has that place.
+// Stores x at place k, where the list has that place. With `get_mut` the proof did not close: no clause says that the list
+// stays where there is no such place.
 fn put(list: &mut [u32], k: usize, x: u32)
     ensures { list.new ≡ slice_set list.old k x }
 {
