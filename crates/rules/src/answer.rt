@@ -40,7 +40,8 @@ const HOMES: [Where; 12] = [
     Where::Either,
 ];
 
-// The message of a kind. Any kind but 1 to 4 gives remote, and its event is refused as ill filled.
+// The message of a kind, which is total as its definition is: any kind but 1 to 4 gives remote, and its event is refused as
+// ill filled.
 #[tactic(auto, unfolding(protocol::specs::Answer::message_of))]
 fn message_of(kind: u32, from: u32) -> Message
     ensures { result ≡ message_of kind from }
@@ -53,7 +54,7 @@ fn message_of(kind: u32, from: u32) -> Message
     }
 }
 
-// The rule that the action number picks, or the refusal of an unknown one.
+// The rule that the action number picks, or the refusal of an unknown one, in the one match that document 01 asks for.
 #[tactic(auto, unfolding(protocol::specs::Answer::action_of, protocol::specs::Answer::no_action))]
 pub(crate) fn asked(e: Event) -> Result<Action, Refusal>
     ensures { result ≡ asked_by e }
@@ -78,7 +79,7 @@ pub(crate) fn asked(e: Event) -> Result<Action, Refusal>
     }
 }
 
-// Is the kind ill filled?
+// Is the kind ill filled? Here and below an event goes by its numbers, as any may stand in it.
 #[tactic(auto, unfolding(protocol::specs::Answer::ill_kind))]
 fn ill_kind(e: Event) -> bool
     ensures { result ≡ ill_kind e }
