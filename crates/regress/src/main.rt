@@ -44,7 +44,8 @@ fn tell(rt: &(impl Files + Print), name: &[u8]) -> bool {
     same
 }
 
-// Puts the argument into space and answers it, empty where it is longer than space, or None where there is none.
+// Puts the argument into space and answers it, empty where it is longer than space, as there is no such scenario, or None
+// where there is none.
 fn name_at<'a>(rt: &impl Env, i: usize, space: &'a mut [u8]) -> Option<&'a [u8]> {
     match rt.arg(i, space) {
         Ok(n) => Some(&space[..n]),

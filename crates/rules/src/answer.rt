@@ -79,7 +79,8 @@ pub(crate) fn asked(e: Event) -> Result<Action, Refusal>
     }
 }
 
-// Is the kind ill filled? Here and below an event goes by its numbers, as any may stand in it.
+// Is the kind ill filled? Here and below an event goes by its numbers: an `Action` has lost the fields that must be 0, and a
+// wrong kind.
 #[tactic(auto, unfolding(protocol::specs::Answer::ill_kind))]
 fn ill_kind(e: Event) -> bool
     ensures { result ≡ ill_kind e }
@@ -126,7 +127,7 @@ fn home_met(h: Where, here: bool) -> bool
     }
 }
 
-// Is the home of action a met?
+// Is the home of action a met? Document 01 asks for the table by number.
 #[tactic(auto, unfolding(protocol::specs::Answer::home_met))]
 fn right_home(a: u32, here: bool) -> bool
     ensures { result ≡ home_met (slice_index_or home_table (a - 1) anywhere) here }

@@ -90,7 +90,8 @@ fn multicast(m: Message, sites: u32, ts: u32, ps: &mut [Place; SITES])
     }
 }
 
-// Sends ready from site i about each transaction of ts to its home.
+// Sends ready from site i about each transaction of ts to its home, one by one: site by site is shorter to prove and misses
+// the speed bar, with 217 µs a run for 181.
 fn ready_home(i: usize, ts: u32, xs: &[Txn; 32], ps: &mut [Place; SITES])
     ensures { ps.new ≡ delivered (Message.Ready i) (homed_at xs.now ts) ps.old }
 {

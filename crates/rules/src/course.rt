@@ -27,7 +27,8 @@ fn leave(s: &mut State, i: usize, t: Slot, d: &Turn)
     }
 }
 
-// Takes one event in a state in range, and says how many messages it sent. A refused event changes nothing.
+// Takes one event in a state in range, and says how many messages it sent. A refused event changes nothing. That the state is
+// in range stays a clause here and at two more: a type for it would be taken apart at once.
 pub(crate) fn taken(s: &mut State, e: Event) -> Result<u32, Refusal>
     requires { in_range s.old ≡ true }
     ensures { stepped (record { outcome = result; state = s.new }) ≡ step s.old e }

@@ -42,7 +42,7 @@ pub(crate) struct Here {
 }
 
 // What the table of transactions tells an event: whether its end of operation meets a lock clash at home, and the scan of
-// its site as it ends, or as it begins where the event scans nothing.
+// its site as it ends, or as it begins where the event scans nothing and nobody reads it.
 #[derive(Clone, Copy)]
 pub(crate) struct Told {
     pub clash: bool,
@@ -50,7 +50,8 @@ pub(crate) struct Told {
 }
 
 // What an event leaves: how many messages it sent, what it makes of the parts that it read, a message with the set of the
-// transactions about which it goes to all other sites, and the set of those about which ready goes to their home.
+// transactions about which it goes to all other sites, and the set of those about which ready goes to their home. A message
+// about no transaction goes nowhere, so it is no Option.
 #[derive(Clone, Copy)]
 pub(crate) struct Turn {
     pub sent: u32,

@@ -7,8 +7,8 @@ use crate::slot::Slot;
 use crate::{Here, Told};
 use protocol::{Action, Event, Refusal};
 
-// k where it is below n, else 0: an index that is in place whatever an event names, which is refused later where it names
-// no place.
+// k where it is below n, else 0: an index that is in place whatever an event names. An Option would be tested twice, here and
+// by `misplaced`, whose turn comes after the action's.
 pub(crate) fn index(k: u32, n: u32) -> usize
     ensures { result ≡ index_of k n }
 {
@@ -16,7 +16,8 @@ pub(crate) fn index(k: u32, n: u32) -> usize
 }
 
 // The action of an event among so many sites and transactions, or why the event is refused, where h is what stands at its
-// site i and its transaction t, and `told` is what the table told it.
+// site and its transaction t, and `told` is what the table told it. The turn is done after this, as a Result of a whole turn
+// takes a third longer for a run.
 pub(crate) fn admitted(
     e: Event,
     sites: u32,

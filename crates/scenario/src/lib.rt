@@ -21,7 +21,8 @@ pub enum Want {
 }
 
 // How far a text has been read: which line is wanted, its number, how many of its kind have been, and the numbers of
-// sites, transactions and events that the text announces. After a fault `line` is the number of the line at fault.
+// sites, transactions and events that the text announces. After a fault `line` is the number of the line at fault. It is no
+// Result, as `read` promises the reading of a faulty text too.
 #[derive(Clone, Copy)]
 pub struct Reading {
     pub want: Want,

@@ -10,7 +10,8 @@ ghost use Rattle.scenario.specs.Report.{line_of, commas_of, list_of, answer_line
 use itoa::Buffer;
 use protocol::{Place, Refusal, Row, State};
 
-// Lent bytes, and the place in them after what has been printed.
+// Lent bytes, and the place in them after what has been printed. They are lent, as a printer that owns its bytes takes a sixth
+// longer for short texts.
 #[derive(Drop)]
 pub(crate) struct Printer<'a> {
     out: &'a mut [u8],

@@ -140,7 +140,7 @@ impl<'a> Cursor<'a> {
         }
     }
 
-    // The number of transactions.
+    // The number of transactions. Each kind of line has a definition of its own, and so a method.
     #[tactic(auto, unfolding(crate::specs::Format::count_line, crate::specs::Format::moved))]
     fn count_line(&self, n: Option<u32>) -> Reading
         ensures { result ≡ count_line self.now.m n }
@@ -322,7 +322,7 @@ pub fn whole(m: Reading) -> bool
     matches!(m.want, Want::Nothing)
 }
 
-// What stands at place k, or 0 where the list has no such place.
+// What stands at place k, or 0 where the list has no such place: that of a lent list, as `status_in` of rules is of a row.
 fn stored_at(list: &[u32], k: usize) -> u32
     ensures { result ≡ slice_index list.now k }
 {

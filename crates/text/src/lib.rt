@@ -16,7 +16,8 @@ pub fn decimal(s: &[u8]) -> Option<u32>
     }
 }
 
-// The number that the bytes are, digit by digit from the first.
+// The number that the bytes are, digit by digit from the first, by hand: the library's `parse` takes a plus sign and wants a
+// `str`.
 fn from_digits(s: &[u8]) -> Option<u32>
     ensures { result ≡ goes_on 0 s.now }
 {
