@@ -3,7 +3,8 @@ use Rattle.std.proofs.Common.{ℕ, ◌/◌, ◌≡◌, ◌==◌, cond, List, len
 use Rattle.std.specs.Result.{result_unwrap_or}
 use Rattle.protocol.specs.Setup.{Started, setup_of}
 use Rattle.protocol.specs.Run.{Ran, run}
-use Rattle.protocol.specs.Refusals.{number_of, number_of-some, answer_of, sent_of, started, ran}
+use Rattle.protocol.specs.Refusals.{number_of, answer_of, sent_of, started, ran}
+use Rattle.laws.specs.Numbers.{number_of-some}
 use Rattle.protocol.specs.declared.Answered.{Answered}
 use Rattle.protocol.specs.declared.Entry.{Entry}
 use Rattle.protocol.specs.declared.Event.{Event}

@@ -20,3 +20,4 @@ pub mod Actions
 pub mod Begun
 pub mod Ranged
 pub mod Runs
+pub mod Numbers

@@ -7,7 +7,7 @@ use Rattle.protocol.specs.Answer.{step}
 use Rattle.protocol.specs.declared.Event.{Event}
 use Rattle.protocol.specs.declared.State.{State}
 
--- "An event has seven fields": the event of seven numbers
+-- "An event has seven fields: action, site, transaction, kind, from, reads, writes": the event of seven numbers
 abbrev pub event_in : List ℕ → Event
 event_in l = record {
   action = slice_index_or l 0 0;
@@ -19,8 +19,7 @@ event_in l = record {
   writes = slice_index_or l 6 0;
 }
 
--- "An event has seven fields: action, site, transaction, kind, from, reads, writes": a list of numbers as events, seven
--- numbers an event. A tail of fewer than seven is no event; that is our reading.
+-- a list of numbers as events, seven numbers an event. A tail of fewer than seven is no event; that is our reading.
 unfoldable pub events_of : List ℕ → List Event
 events_of [] = []
 events_of (a ∷ []) = []
@@ -29,8 +28,7 @@ events_of (a ∷ i ∷ t ∷ []) = []
 events_of (a ∷ i ∷ t ∷ k ∷ []) = []
 events_of (a ∷ i ∷ t ∷ k ∷ f ∷ []) = []
 events_of (a ∷ i ∷ t ∷ k ∷ f ∷ r ∷ []) = []
-events_of (a ∷ i ∷ t ∷ k ∷ f ∷ r ∷ w ∷ l) =
-    record { action = a; site = i; txn = t; kind = k; from = f; reads = r; writes = w } ∷ events_of l
+events_of (a ∷ i ∷ t ∷ k ∷ f ∷ r ∷ w ∷ l) = event_in (a ∷ i ∷ t ∷ k ∷ f ∷ r ∷ w ∷ []) ∷ events_of l
 
 -- the state after the events, "past refused events"
 unfoldable pub state_after : State → List Event → State

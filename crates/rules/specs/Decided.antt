@@ -5,7 +5,8 @@ use Rattle.std.proofs.Common.{sym, ◌∙◌}
 use Rattle.protocol.specs.Setup.{setup, setup_of}
 use Rattle.protocol.specs.Answer.{step}
 use Rattle.protocol.specs.Run.{events_of, run, answers_after}
-use Rattle.protocol.specs.Refusals.{started, stepped, ran, started-same, stepped-same, ran-same}
+use Rattle.protocol.specs.Refusals.{started, stepped, ran}
+use Rattle.laws.specs.Numbers.{started-same, stepped-same, ran-same}
 use Rattle.protocol.specs.declared.Answered.{Answered}
 use Rattle.protocol.specs.declared.Entry.{Entry}
 use Rattle.protocol.specs.declared.Event.{Event}

@@ -6,10 +6,10 @@ ghost use Rattle.protocol.specs.Run.{events_of, state_after, sent_by, answers_of
 ghost use Rattle.protocol.specs.Refusals.{stepped, ran};
 ghost use Rattle.rules.specs.Turn.{after_turn};
 
+use crate::admitting::{admitted, index};
 use crate::channel::posted;
 use crate::figure::effect;
 use crate::slot::Slot;
-use crate::stepping::{admitted, index};
 use crate::view::View;
 use crate::{Here, Turn};
 use protocol::{Answered, Event, Refusal, State};
@@ -29,7 +29,7 @@ fn leave(s: &mut State, i: usize, t: Slot, d: &Turn)
 
 // Takes one event in a state in range, and says how many messages it sent. A refused event changes nothing. That the state is
 // in range stays a clause here and at two more: a type for it would be taken apart at once.
-pub(crate) fn taken(s: &mut State, e: Event) -> Result<u32, Refusal>
+pub(crate) fn take(s: &mut State, e: Event) -> Result<u32, Refusal>
     requires { in_range s.old ≡ true }
     ensures { stepped (record { outcome = result; state = s.new }) ≡ step s.old e }
 {
@@ -62,7 +62,7 @@ pub(crate) fn performed(s: State, events: &[u32], answers: &mut [u8]) -> Answere
     let mut state = s;
     let mut sent = 0;
     for (k, chunk) in chunks.iter().enumerate() {
-        answers[k] = match taken(&mut state, Event::from(*chunk)) {
+        answers[k] = match take(&mut state, Event::from(*chunk)) {
             Ok(n) => {
                 sent += n;
                 0

@@ -9,6 +9,7 @@ ghost use Rattle.protocol.specs.Answer.{step};
 ghost use Rattle.protocol.specs.Run.{events_of, run, answers_after};
 ghost use Rattle.rules.specs.Events.{run_refusal};
 
+pub(crate) mod admitting;
 pub(crate) mod answer;
 pub(crate) mod asking;
 pub(crate) mod channel;
@@ -21,13 +22,12 @@ pub(crate) mod range;
 pub(crate) mod row;
 pub(crate) mod scan;
 pub(crate) mod slot;
-pub(crate) mod stepping;
 pub(crate) mod table;
 pub(crate) mod view;
 
 use crate::answer::demand;
 use crate::copied::{blank, judged, with_entry};
-use crate::course::{performed, taken};
+use crate::course::{performed, take};
 use crate::range::in_range;
 use protocol::{Answered, Entry, Event, Message, Place, Refusal, Row, Scan, State, Txn};
 use std::array;
@@ -91,7 +91,7 @@ pub fn step(mut s: State, e: Event) -> Answered<u32>
     ensures { stepped result ≡ step s e }
 {
     let outcome = if in_range(&s) {
-        taken(&mut s, e)
+        take(&mut s, e)
     } else {
         Err(Refusal::OutOfRange)
     };

@@ -9,7 +9,8 @@ use Rattle.protocol.specs.declared.Entry.{Entry}
 use Rattle.protocol.specs.declared.Event.{Event}
 use Rattle.protocol.specs.Run.{Ran}
 use Rattle.protocol.specs.Setup.{Started}
-use Rattle.protocol.specs.Refusals.{number_of, number_of-some, answer_of, sent_of, started}
+use Rattle.protocol.specs.Refusals.{number_of, answer_of, sent_of, started}
+use Rattle.laws.specs.Numbers.{number_of-some}
 use Rattle.protocol.specs.declared.Answered.{Answered}
 use Rattle.protocol.specs.declared.Refusal.{Refusal}
 use Rattle.protocol.specs.declared.State.{State}

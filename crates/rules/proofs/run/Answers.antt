@@ -1,7 +1,8 @@
 -- A refused run returns at once; any other performs its events.
 use Rattle.std.proofs.Common.{sym}
 use Rattle.laws.specs.Runs.{events-length}
-use Rattle.protocol.specs.Refusals.{number_of-some}
+use Rattle.protocol.specs.Refusals.{}
+use Rattle.laws.specs.Numbers.{number_of-some}
 use Rattle.protocol.specs.Run.{events_of}
 use Rattle.rules.proofs.Running.{run_fine, refused, completed}
 use Rattle.rules.proofs.run.Goals as goal

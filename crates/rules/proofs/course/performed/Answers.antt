@@ -16,8 +16,8 @@ loop-k-init c = record {
   going = going_begun _ _ _ (shaped _ _ c.well_formed.0) c.requires.0;
 }
 
-pub taken-requires : goal.taken-requires
-taken-requires c = c.loop-k.invariant.going.ranged
+pub take-requires : goal.take-requires
+take-requires c = c.loop-k.invariant.going.ranged
 
 pub overflow_add-sent : goal.overflow_add-sent
 overflow_add-sent c =
@@ -26,8 +26,8 @@ overflow_add-sent c =
 pub loop-k-preserved : goal.loop-k-preserved
 loop-k-preserved c =
     let l = c.loop-k in
-    let r = c.taken.result in
-    let new = c.match-taken in
+    let r = c.take.result in
+    let new = c.match-take in
     let sent : new.sent ≡ l.sent + sent_of r =
     elim new.branch [
       | in-Ok w ↦ rw w.in-Ok.is w.sent-is
@@ -39,13 +39,13 @@ loop-k-preserved c =
       | in-Err w ↦ rw w.in-Err.is (w.answers-is ∙ w.from-in-Err.ensures)
     ] in
     record {
-      few = omega (arith, l.invariant.few, few_sent _ _ _ c.taken.ensures);
+      few = omega (arith, l.invariant.few, few_sent _ _ _ c.take.ensures);
       going =
           rw (sent, answer)
           (going_turned _ _ _ l.k l.state l.sent l.answers _ _ l.invariant.going
           (events_from c.args.events.now l.k (omega (arith, c.as_chunks.ensures.front_len)))
           (omega (arith, c.requires.2, c.as_chunks.ensures.front_len))
-          (c.taken.ensures ∙ ap (step l.state) (rw c.as_chunks.ensures.front at c.from.ensures)));
+          (c.take.ensures ∙ ap (step l.state) (rw c.as_chunks.ensures.front at c.from.ensures)));
     }
 
 pub returns : goal.returns

@@ -3,7 +3,7 @@ use Rattle.std.proofs.Common.{◌∙◌, Ok, Err, arith}
 use Rattle.std.proofs.lemmas.Grind.{common_steps}
 use Rattle.rules.proofs.Bounds.{count_below, site_at, txn_at_lem, versions_below}
 use Rattle.rules.proofs.Turns.{turn_taken}
-use Rattle.rules.proofs.course.taken.Goals as goal
+use Rattle.rules.proofs.course.take.Goals as goal
 
 pub at-t-requires : goal.at-t-requires
 at-t-requires c = txn_at_lem _ c.requires _ _ c.index.ensures
