@@ -1,22 +1,22 @@
 -- What the functions below setup make of the entries is the fresh state, and what they answer is setup's answer.
-use Rattle.std.specs.Prelude.{◌==◌, nat_lt, nat_le}
+use Rattle.std.specs.Prelude.{◌==◌, ◌&&◌, nat_lt, nat_le}
 use Prim.Native.Nat.{ℕ, ◌≤◌, ◌<◌}
 use mathlib.Core.Path.{◌≡◌, refl, sym, ap, ◌∙◌, fun_ext}
 use mathlib.Core.Bool.{Bool, true, false, not, cond, and-false}
-use mathlib.Core.List.{List}
+use mathlib.Core.List.{List, []}
 use native.Mathlib.Omega.{arith}
 use lib.ListN.{length, get_or-eq_default}
 use borrow.Author.Tests.{leb-true, lt-leb, ltb-true, ltb-false}
 use Rattle.laws.specs.Tests.{Test, yes_so, not_so, test, both_right}
 use Rattle.laws.specs.Lists.{length-table, get_or-table}
-use Rattle.protocol.specs.Lists.{table}
+use Rattle.protocol.specs.Lists.{table, table_from, each, each_from}
 use Rattle.protocol.specs.State.{max_txns, empty_state, no_txn, txn_in}
 use Rattle.protocol.specs.Check.{first_of}
 use Rattle.protocol.specs.Setup.{Started, sites_fine, count_fine, entry_at, fresh_row, fresh_txn, fresh_state, setup_checks, setup_answer, setup, setup_of}
 use Rattle.protocol.specs.declared.Entry.{Entry}
 use Rattle.protocol.specs.declared.Txn.{Txn}
 use Rattle.protocol.specs.declared.State.{State}
-use Rattle.rules.specs.Copied.{entry_of, refusal_with, begun_with, judged_with, judged_of}
+use Rattle.rules.specs.Copied.{from_entry, entry_of, refusal_with, begun_with, judged_with, judged_of}
 
 -- where the count is fine there is room
 pub few : (n : ℕ) → count_fine n ≡ true → n ≤ max_txns
@@ -67,6 +67,15 @@ of_table es l t = go (test (nat_lt t (length es))) (test (nat_lt t max_txns))
         (omega (arith, length-table (fresh_txn es) max_txns, ltb-false t max_txns c)))
         ∙ past (ltb-false t (length es) b)
 
+-- transaction t with its entry, where the table has one
+abbrev pub entered : List Entry → ℕ → Txn → Txn
+entered es t x = cond (nat_lt t (length es)) (from_entry x (entry_at es t)) x
+
+-- those of the empty state, each with its entry
+pub all_entered : (es : List Entry) → each (entered es) empty_state.txns ≡ table max_txns (fresh_txn es)
+unfolding each_from table_from fresh_txn empty_state
+all_entered es = refl
+
 -- ---- the answers
 
 abbrev pub copied : List Entry → State
@@ -83,17 +92,23 @@ module _ (sites : ℕ) (es : List Entry) where
   few_judged l =
       ap (λ (e : ℕ → Entry). judged_with sites (length es) e (copied es)) (fun_ext (of_table es l)) ∙ by_table
 
--- of one that has more nothing matters but the count of sites
-many_judged : (sites n : ℕ) (e : ℕ → Entry) (s : State) → nat_le n max_txns ≡ false
+-- where the count is refused nothing else matters but the count of sites
+uncounted : (sites n : ℕ) (e : ℕ → Entry) (s : State) → count_fine n ≡ false
     → judged_with sites n e s ≡ record { answer = cond (sites_fine sites) 22 21; state = empty_state }
-unfolding count_fine first_of
-many_judged sites n e s h = rw (h, and-false (nat_le 1 n)) (go (sites_fine sites))
+unfolding first_of
+uncounted sites n e s h = rw h (go (sites_fine sites))
   where
     go : (a : Bool)
         → ◌≡◌ {A = Started} (record { answer = cond (not a) 21 22; state = cond (cond (not a) 21 22 == 0) (begun_with sites n e s) empty_state })
         (record { answer = cond a 22 21; state = empty_state })
     go true = refl
     go false = refl
+
+-- .. as it is of a table that has more entries than there is room for
+many_judged : (sites n : ℕ) (e : ℕ → Entry) (s : State) → nat_le n max_txns ≡ false
+    → judged_with sites n e s ≡ record { answer = cond (sites_fine sites) 22 21; state = empty_state }
+unfolding count_fine
+many_judged sites n e s h = uncounted sites n e s (ap (λ (b : Bool). nat_le 1 n && b) h ∙ and-false (nat_le 1 n))
 
 -- setup is what `judged` makes of the entries that were copied
 pub setup_judged : (sites : ℕ) (es : List Entry)
@@ -105,7 +120,7 @@ setup_judged sites es = go (test (nat_le (length es) max_txns))
     go (yes_so b) = few_judged sites es (leb-true (length es) max_txns b)
     go (not_so b) = many_judged sites (length es) _ (copied es) b ∙ sym (many_judged sites (length es) (entry_at es) (copied es) b) ∙ by_table sites es
 
--- and so where they are handed over by value: more than fit are refused
-pub many_refused : (sites n : ℕ) (es : List Entry) (s : State) → max_txns < n → judged_of sites n s ≡ setup_of sites n es
-unfolding setup_of
-many_refused sites n es s h = rw (lt-leb _ _ h) (many_judged sites n _ s (lt-leb _ _ h))
+-- more than fit, handed over by value, are refused as none are
+pub none_refused : (sites n : ℕ) (es : List Entry) → max_txns < n → setup sites [] ≡ setup_of sites n es
+unfolding setup_of count_fine
+none_refused sites n es h = rw (lt-leb _ _ h) (sym (by_table sites []) ∙ uncounted sites 0 (entry_at []) (copied []) refl)

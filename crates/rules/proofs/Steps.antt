@@ -1,10 +1,13 @@
--- What an event returns, by the number that its checks give, and how many messages it can send.
+-- What an event returns, by the number that its checks give, and how large its numbers can be.
+use Rattle.std.specs.Prelude.{nat_le}
 use Prim.Native.Nat.{ℕ, ◌≤◌, zero-le}
 use mathlib.Core.Path.{◌≡◌, refl, sym, ap, ◌∙◌}
-use mathlib.Core.Bool.{true, false}
+use mathlib.Core.Bool.{Bool, true, false, cond, ◌&&◌}
+use mathlib.Core.List.{List, [], ◌∷◌}
 use native.Mathlib.Omega.{arith}
+use borrow.Author.Tests.{leb-true}
 use Rattle.sets.specs.Laws.{size_le}
-use Rattle.protocol.specs.Check.{first_of}
+use Rattle.protocol.specs.Check.{Check, first_of}
 use Rattle.protocol.specs.Range.{in_range}
 use Rattle.protocol.specs.Channel.{others}
 use Rattle.protocol.specs.Scan.{scan, scan_leaves}
@@ -17,12 +20,28 @@ use Rattle.protocol.specs.declared.Scan.{Scan}
 use Rattle.protocol.specs.declared.Done.{Done}
 use Rattle.protocol.specs.declared.Event.{Event}
 use Rattle.protocol.specs.declared.State.{State}
-use Rattle.laws.specs.Tests.{Same, same, other, same?}
+use Rattle.laws.specs.Tests.{Same, same, other, same?, both_left, both_right}
 use Rattle.laws.specs.Enabled.{step-done, step-refused}
 use Rattle.rules.proofs.Bounds.{few_times}
 use Rattle.rules.proofs.Checks.{misplaced_in, refusal_in, refused_unknown, refused_misplaced, refused_by_action}
 
--- ---- how many messages an event can send
+-- ---- how large the numbers can be
+
+-- no number of the table is above n
+none_above : ℕ → List Check → Bool
+none_above n [] = true
+none_above n (c ∷ l) = nat_le c.number n && none_above n l
+
+-- .. so the first that applies is not
+first_below : (n : ℕ) (l : List Check) → none_above n l ≡ true → first_of l ≤ n
+unfolding first_of none_above
+first_below n [] h = zero-le
+first_below n (c ∷ l) h =
+    go c.applies (first_below n l (both_right (nat_le c.number n) (none_above n l) h))
+  where
+    go : (b : Bool) → first_of l ≤ n → cond b c.number (first_of l) ≤ n
+    go true r = leb-true c.number n (both_left (nat_le c.number n) (none_above n l) h)
+    go false r = r
 
 -- a scan sends an abort about each transaction of a set to each other site, and a ready about each of another set
 scan_few : (s : State) (i : ℕ) (c : Scan) → (scan_leaves s i c).sent ≤ 1056
@@ -47,17 +66,17 @@ sent_few ExecuteRemote s i t = scan_few s i _
 sent_few (Discard m) s i t = zero-le
 
 module _ (s : State) (e : Event) where
-  -- an event sends at most 1,056 messages
-  step_few : (step s e).sent ≤ 1056
-  unfolding done
+  -- the answer of an event is at most 11, and it sends at most 1,056 messages
+  step_few : ((step s e).answer ≤ 11) × ((step s e).sent ≤ 1056)
+  unfolding answer checks checks_in_range none_above done
   step_few = go (same? (answer s e) 0)
     where
-      go : Same (answer s e) 0 → (step s e).sent ≤ 1056
-      go (same z) = rw (step-done s e z) (sent_few (action_of e) s e.site e.txn)
-      go (other d) = rw (step-refused s e d) zero-le
+      go : Same (answer s e) 0 → ((step s e).answer ≤ 11) × ((step s e).sent ≤ 1056)
+      go (same z) = rw (step-done s e z) (zero-le, sent_few (action_of e) s e.site e.txn)
+      go (other d) = rw (step-refused s e d) (first_below 11 (checks s e) refl, zero-le)
 
-  pub few_sent : (r : Stepped) → r ≡ step s e → r.sent ≤ 1056
-  few_sent r h = rw h step_few
+  pub few_step : (r : Stepped) → r ≡ step s e → (r ≡ step s e) × (r.answer ≤ 11) × (r.sent ≤ 1056)
+  few_step r h = (h, rw h step_few.0, rw h step_few.1)
 
   -- ---- what an event returns in a state in range
 

@@ -72,8 +72,8 @@ pub(crate) fn with_entry(x: Txn, e: Entry) -> Txn
 }
 
 // The row of site i in a fresh state: start for those of the first n that have their home there.
-fn started_row(n: usize, xs: [Txn; 32], i: usize) -> Row
-    ensures { result ≡ started_row n (λ t. (txn_in xs t).home) i }
+fn started_row(n: usize, xs: &[Txn; 32], i: usize) -> Row
+    ensures { result ≡ started_row n (λ t. (txn_in xs.now t).home) i }
 {
     let status = array::from_fn(|t| if t < n && xs[t].home as usize == i {
         START
@@ -84,16 +84,16 @@ fn started_row(n: usize, xs: [Txn; 32], i: usize) -> Row
 }
 
 // The rows of a fresh state.
-fn started_rows(n: usize, xs: [Txn; 32]) -> [Row; SITES]
-    ensures { result ≡ started_rows n (λ t. (txn_in xs t).home) }
+fn started_rows(n: usize, xs: &[Txn; 32]) -> [Row; SITES]
+    ensures { result ≡ started_rows n (λ t. (txn_in xs.now t).home) }
 {
     array::from_fn(|i| started_row(n, xs, i))
 }
 
 // Why a setup of n entries is refused, which have been copied into the state.
 #[tactic(auto, using(crate::proofs::Fresh::few), unfolding(protocol::specs::Check::first_of))]
-fn setup_refusal(sites: u32, n: usize, s: State) -> Result<(), Refusal>
-    ensures { answer_of result ≡ setup_refusal sites n s }
+fn setup_refusal(sites: u32, n: usize, s: &State) -> Result<(), Refusal>
+    ensures { answer_of result ≡ setup_refusal sites n s.now }
 {
     demand(sites_fine(sites), Refusal::WrongSites)?;
     demand(count_fine(n), Refusal::WrongCount)?;
@@ -104,18 +104,17 @@ fn setup_refusal(sites: u32, n: usize, s: State) -> Result<(), Refusal>
 
 // The setup of a state into which n entries have been copied. A refused one gives the empty state.
 #[tactic(auto, using(crate::proofs::Fresh::few_accepted))]
-pub(crate) fn judged(sites: u32, n: usize, s: State) -> Answered<()>
+pub(crate) fn judged(sites: u32, n: usize, mut s: State) -> Answered<()>
     ensures { started result ≡ judged_of sites n s }
 {
-    let outcome = setup_refusal(sites, n, s);
-    let state = match outcome {
-        Ok(()) => State {
-            sites,
-            count: n as u32,
-            rows: started_rows(n, s.txns),
-            ..s
-        },
-        Err(_) => blank(),
-    };
-    Answered { outcome, state }
+    let outcome = setup_refusal(sites, n, &s);
+    match outcome {
+        Ok(()) => {
+            s.sites = sites;
+            s.count = n as u32;
+            s.rows = started_rows(n, &s.txns);
+        }
+        Err(_) => s = blank(),
+    }
+    Answered { outcome, state: s }
 }

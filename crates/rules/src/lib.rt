@@ -30,7 +30,6 @@ use crate::copied::{blank, judged, with_entry};
 use crate::course::{performed, take};
 use crate::range::in_range;
 use protocol::{Answered, Entry, Event, Message, Place, Refusal, Row, Scan, State, Txn};
-use std::array;
 
 // What an event reads of the state and can change there, but for the channels of other sites: the statuses at its site, what
 // else belongs to the site, and its transaction. The number of the transaction goes beside it, as in the definitions.
@@ -65,13 +64,13 @@ pub(crate) struct Turn {
 pub fn setup(sites: u32, table: &[Entry]) -> Answered<()>
     ensures { started result ≡ setup sites table.now }
 {
-    let empty = blank();
-    let txns = array::from_fn(|t| if t < table.len() {
-        with_entry(empty.txns[t], table[t])
-    } else {
-        empty.txns[t]
-    });
-    judged(sites, table.len(), State { txns, ..empty })
+    let mut s = blank();
+    for (t, x) in s.txns.iter_mut().enumerate() {
+        if let Some(e) = table.get(t) {
+            *x = with_entry(*x, *e);
+        }
+    }
+    judged(sites, table.len(), s)
 }
 
 // The same for a caller that holds its entries by value, of which the first n count. Its promise is of a count and 32
@@ -81,7 +80,7 @@ pub fn setup_of(sites: u32, n: usize, entries: [Entry; 32]) -> Answered<()>
 {
     match entries.get(..n) {
         Some(table) => setup(sites, table),
-        None => judged(sites, n, blank()),
+        None => setup(sites, &[]),
     }
 }
 

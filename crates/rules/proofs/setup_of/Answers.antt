@@ -1,9 +1,9 @@
--- The first n entries are a table; where n does not fit, `judged` refuses.
+-- The first n entries are a table; where n does not fit, the setup is refused as that of no entry is.
 use Rattle.std.proofs.Common.{◌≡◌, ◌<◌, ◌∙◌, ap, arith, take, le-leb}
 use Rattle.std.proofs.lemmas.Grind.{common_steps}
 use Rattle.protocol.specs.Setup.{setup, setup_of}
 use Rattle.protocol.specs.State.{max_txns}
-use Rattle.rules.proofs.Fresh.{many_refused}
+use Rattle.rules.proofs.Fresh.{none_refused}
 use Rattle.rules.proofs.setup_of.Goals as goal
 
 pub returns-in-Some : goal.returns-in-Some
@@ -16,4 +16,4 @@ returns-in-Some c =
 pub returns-in-None : goal.returns-in-None
 returns-in-None c =
     let many : max_txns < c.args.n = omega (arith, c.in-None.ensures.lookup.0) in
-    c.judged.ensures ∙ many_refused c.args.sites c.args.n c.args.entries c.blank.result many
+    c.setup-in-None.ensures ∙ none_refused c.args.sites c.args.n c.args.entries many

@@ -6,7 +6,7 @@ use Rattle.protocol.specs.Refusals.{answer_of, sent_of}
 use Rattle.rules.proofs.EventList.{events_from}
 use Rattle.rules.proofs.Running.{going_begun, going_turned, finished}
 use Rattle.rules.proofs.Shape.{shaped}
-use Rattle.rules.proofs.Steps.{few_sent}
+use Rattle.rules.proofs.Steps.{few_step}
 use Rattle.rules.proofs.course.performed.Goals.{in-Ok, in-Err}
 use Rattle.rules.proofs.course.performed.Goals as goal
 
@@ -21,7 +21,7 @@ take-requires c = c.loop-k.invariant.going.ranged
 
 pub overflow_add-sent : goal.overflow_add-sent
 overflow_add-sent c =
-    omega (arith, c.requires.1, c.as_chunks.ensures.front_len, few_sent _ _ _ c.in-Ok.ensures)
+    omega (arith, c.requires.1, c.as_chunks.ensures.front_len, (few_step _ _ _ c.in-Ok.ensures).2)
 
 pub loop-k-preserved : goal.loop-k-preserved
 loop-k-preserved c =
@@ -39,7 +39,7 @@ loop-k-preserved c =
       | in-Err w ↦ rw w.in-Err.is (w.answers-is ∙ w.from-in-Err.ensures)
     ] in
     record {
-      few = omega (arith, l.invariant.few, few_sent _ _ _ c.take.ensures);
+      few = omega (arith, l.invariant.few, (few_step _ _ _ c.take.ensures).2);
       going =
           rw (sent, answer)
           (going_turned _ _ _ l.k l.state l.sent l.answers _ _ l.invariant.going
