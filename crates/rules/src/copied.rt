@@ -102,7 +102,8 @@ fn setup_refusal(sites: u32, n: usize, s: &State) -> Result<(), Refusal>
     demand(priorities_differ(xs), Refusal::EqualPriorities)
 }
 
-// The setup of a state into which n entries have been copied. A refused one gives the empty state.
+// The setup of a state into which n entries have been copied. A refused one gives the empty state. The state is changed where
+// it stands, as it is in `setup`.
 #[tactic(auto, using(crate::proofs::Fresh::few_accepted))]
 pub(crate) fn judged(sites: u32, n: usize, mut s: State) -> Answered<()>
     ensures { started result ≡ judged_of sites n s }

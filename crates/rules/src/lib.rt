@@ -60,7 +60,8 @@ pub(crate) struct Turn {
     pub readies: u32,
 }
 
-// Sets up the sites and the lent table of transactions. This is the only function that touches the table.
+// Sets up the sites and the lent table of transactions. This is the only function that touches the table. The state is made
+// in one place and changed there, as copies of it took half of a setup's time.
 pub fn setup(sites: u32, table: &[Entry]) -> Answered<()>
     ensures { started result ≡ setup sites table.now }
 {
@@ -74,7 +75,7 @@ pub fn setup(sites: u32, table: &[Entry]) -> Answered<()>
 }
 
 // The same for a caller that holds its entries by value, of which the first n count. Its promise is of a count and 32
-// entries, so it stands beside the one of a slice.
+// entries, so it stands beside the one of a slice. More entries than there is room for are refused as no entry is.
 pub fn setup_of(sites: u32, n: usize, entries: [Entry; 32]) -> Answered<()>
     ensures { started result ≡ setup_of sites n entries }
 {
