@@ -89,6 +89,12 @@ printed-part p d e n k f g i h =
     ∙ sym (sets-eq v l p.at (omega arith)) in
     rw (← all, size) (ap (λ (o : List ℕ). with_bytes p o (p.at + n)) paste_v)
 
+-- all bytes of d are copied to their place
+pub printed-copied : (p : Printer) (d e : List ℕ) (k : ℕ) → e ≡ d → length d ≡ k → p.at + length d ≤ length p.out.now
+    → with_bytes p (put_mid p.at k p.out.now e) (p.at + length d) ≡ printed p d
+printed-copied p d e k f g h =
+    printed-part p d e (length d) k (f ∙ sym (take_all (length d) d (omega arith))) (omega arith) g (omega arith)
+
 -- ---- a list, element by element
 
 -- f prints a list, g each of its elements
@@ -111,6 +117,10 @@ pub rows_end : {f : List ℕ → List ℕ} {g : ℕ → List ℕ} → Rows f g �
     → printed p (f (drop i s)) ≡ r → length s ≤ i
     → p ≡ r
 rows_end {f} {g} w p r s i k h = sym (ap (printed p) (ap f (drop_all i s h) ∙ w.empty) ∙ printed-none p) ∙ k
+
+-- bytes, one by one
+pub byte_rows : Rows (λ l. l) (λ x. x ∷ [])
+byte_rows = record { empty = refl; more = λ x l. refl }
 
 -- a line for each answer
 pub answer_rows : Rows answer_lines (line_of (bytes "answer="))
@@ -145,6 +155,15 @@ sites_end s p r n k i e =
     sym (ap (printed p) (ap (λ (x : ℕ). site_lines x k s) z ∙ sites_none k s) ∙ printed-none p) ∙ i
 
 -- ---- a decimal
+
+-- the decimal of a number below ten is its digit
+digit_by : (k n : ℕ) → n < 10 → (48 + n) ∷ [] ≡ digits_by (suc k) n
+unfolding digits_by
+digit_by k n h = search (rules, h)
+
+pub one_digit : (n : ℕ) → n < 10 → (48 + n) ∷ [] ≡ digits n
+unfolding digits
+one_digit n h = digit_by 9 n h
 
 -- what the library writes for a number of 32 bits is its decimal
 pub decimal_digits : (n : ℕ) → n < 4294967296 → decimal n ≡ digits n

@@ -33,40 +33,69 @@ impl<'a> Printer<'a> {
         self.at
     }
 
-    // The bytes of s.
-    fn bytes(&mut self, s: &[u8])
-        ensures { self.new ≡ printed self.old s.now }
-    {
-        if self.at < self.out.len() {
-            let n = s.len().min(self.out.len() - self.at);
-            self.out[self.at..self.at + n].copy_from_slice(&s[..n]);
-            self.at += n;
-        }
-    }
-
-    // One byte.
+    // One byte. The place is read once: after a store into the lent bytes it would have to be read again.
+    #[inline(always)]
     fn byte(&mut self, b: u8)
         ensures { self.new ≡ printed self.old (b ∷ []) }
     {
-        if self.at < self.out.len() {
-            self.out[self.at] = b;
-            self.at += 1;
+        let at = self.at;
+        if at < self.out.len() {
+            self.out[at] = b;
+            self.at = at + 1;
         }
     }
 
-    // The decimal of n.
-    fn number(&mut self, n: u32)
+    // The bytes of s, one by one. They are few, so a call to copy them takes longer, and for such a call the library for C
+    // programs would need memmove besides memcpy and memset.
+    fn bytes(&mut self, s: &[u8])
+        ensures { self.new ≡ printed self.old s.now }
+    {
+        for b in s {
+            self.byte(*b);
+        }
+    }
+
+    // A key. Where all of it has a place it is copied at once. It is inlined, as are the lines that begin with one, so that
+    // its length is known and the copy is a few stores in place of a call.
+    #[inline(always)]
+    fn key(&mut self, key: &[u8])
+        ensures { self.new ≡ printed self.old key.now }
+    {
+        let at = self.at;
+        if at < self.out.len().saturating_sub(key.len()) {
+            self.out[at..at + key.len()].copy_from_slice(key);
+            self.at = at + key.len();
+        } else {
+            self.bytes(key);
+        }
+    }
+
+    // The decimal of n, as the library writes it.
+    fn long_number(&mut self, n: u32)
         ensures { self.new ≡ printed self.old (digits n) }
     {
         let mut text = Buffer::new();
         self.bytes(text.format(n).as_bytes());
     }
 
+    // The decimal of n. Most are a digit alone, which is stored at once.
+    #[inline(always)]
+    fn number(&mut self, n: u32)
+        ensures { self.new ≡ printed self.old (digits n) }
+    {
+        if n < 10 {
+            self.byte(b'0' + n as u8);
+        } else {
+            self.long_number(n);
+        }
+    }
+
     // A line that is a key and a decimal.
+    #[inline(always)]
     pub(crate) fn line(&mut self, key: &[u8], n: u32)
         ensures { self.new ≡ printed self.old (line_of key.now n) }
     {
-        self.bytes(key);
+        self.key(key);
         self.number(n);
         self.byte(b'\n');
     }
@@ -103,10 +132,11 @@ impl<'a> Printer<'a> {
     }
 
     // A line that is a key and the first n elements of l.
+    #[inline(always)]
     fn list(&mut self, key: &[u8], l: &[u8], n: u32)
         ensures { self.new ≡ printed self.old (list_of key.now (take n l.now)) }
     {
-        self.bytes(key);
+        self.key(key);
         self.commas(&l[..(n as usize).min(l.len())]);
         self.byte(b'\n');
     }

@@ -1,12 +1,10 @@
--- As many bytes are stored as have a place.
-use Rattle.std.proofs.Common.{arith}
-use Rattle.scenario.proofs.Writing.{printed-part, printed-full}
+use Rattle.std.proofs.Common.{refl, arith}
+use Rattle.scenario.proofs.Writing.{byte_rows, rows_next, rows_end}
 use Rattle.scenario.proofs.printer.Printer.bytes.Goals as goal
 
-pub returns-then-self : goal.returns-then-self
-returns-then-self c =
-    printed-part c.args.self.now c.args.s.now _ c.min-n.result _ c.copy_from_slice.ensures.after c.min-n.ensures (omega arith)
-    (omega arith)
+pub loop-b-preserved : goal.loop-b-preserved
+loop-b-preserved c =
+    rows_next byte_rows c.loop-b.self _ _ c.args.s.now c.loop-b.b-index _ refl c.byte.ensures c.loop-b.invariant (omega arith)
 
-pub returns-else-self : goal.returns-else-self
-returns-else-self c = printed-full c.args.self.now c.args.s.now c.if-self.false
+pub returns : goal.returns
+returns c = rows_end byte_rows _ _ c.args.s.now c.loop-b.b-index c.loop-b.invariant (omega arith)

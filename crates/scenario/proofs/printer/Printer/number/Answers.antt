@@ -1,7 +1,8 @@
--- The library's text of the number is its decimal.
-use Rattle.std.proofs.Common.{rules}
-use Rattle.scenario.proofs.Writing.{decimal_digits}
+-- A digit alone is its decimal.
+use Rattle.std.proofs.Common.{ap, ◌∙◌}
+use Rattle.scenario.specs.Put.{printed}
+use Rattle.scenario.proofs.Writing.{one_digit}
 use Rattle.scenario.proofs.printer.Printer.number.Goals as goal
 
-pub returns : goal.returns
-returns c = search (rules, decimal_digits)
+pub returns-then-n-lt10 : goal.returns-then-n-lt10
+returns-then-n-lt10 c = c.byte.ensures ∙ ap (printed c.args.self.now) (one_digit c.args.n c.if-n-lt10.true)
