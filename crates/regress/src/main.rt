@@ -11,23 +11,26 @@ use std::fs::File;
 use std::rt::{Env, Files};
 use std::{io, str};
 
-// Reads the file of a scenario with this ending into space, and answers what came, or None where it can't be opened.
-fn load<'a>(rt: &impl Files, name: &str, end: &str, space: &'a mut [u8]) -> Option<&'a [u8]> {
+// Opens the file of a scenario with this ending, and answers it, or None where that fails.
+fn open<R: Files>(rt: &R, name: &str, end: &str) -> Option<R::File> {
     let mut path = ArrayString::<300>::new();
     write!(path, "{name}{end}").ok()?;
-    let file = File::open(rt, path.as_str()).ok()?;
-    Some(read_full(file, space))
+    File::open(rt, path.as_str()).ok()
 }
 
-// Whether the report of the scenario is the stored one, or None where a file is missing. A path is text, so a name that
-// is not UTF-8 has no file. One byte more is read than a text or a report may have, so that a longer file is noticed.
+// Whether the report of the scenario is the stored one, or None where a file is missing. Both are opened before either is
+// read. A path is text, so a name that is not UTF-8 has no file. One byte more is read than a text or a report may have, so
+// that a longer file is noticed.
 fn same(rt: &impl Files, name: &[u8]) -> Option<bool> {
-    let name = str::from_utf8(name).ok()?;
     let mut text = [0u8; MAX_TEXT + 1];
-    let text = load(rt, name, ".scenario", &mut text)?;
     let mut stored = [0u8; REPORT_ROOM + 1];
-    let stored = load(rt, name, ".report", &mut stored)?;
     let mut out = [0u8; REPORT_ROOM];
+    let name = str::from_utf8(name).ok()?;
+    let scenario = open(rt, name, ".scenario");
+    let report_file = open(rt, name, ".report");
+    let (scenario, report_file) = scenario.zip(report_file)?;
+    let text = read_full(scenario, &mut text);
+    let stored = read_full(report_file, &mut stored);
     Some(report(text, &mut out) == stored)
 }
 
