@@ -2,6 +2,8 @@
 // come back, to the byte. The file stdout has what this program must print: every scenario the same.
 #![tactic(auto)]
 
+ghost use Rattle.std.specs.Prelude.{◌≤◌, length, IfSome};
+
 use arrayvec::ArrayString;
 use scenario::{MAX_TEXT, REPORT_ROOM};
 use shared::{read_full, report};
@@ -49,7 +51,9 @@ fn tell(rt: &(impl Files + Print), name: &[u8]) -> bool {
 
 // Puts the argument into space and answers it, empty where it is longer than space, as there is no such scenario, or None
 // where there is none.
-fn name_at<'a>(rt: &impl Env, i: usize, space: &'a mut [u8]) -> Option<&'a [u8]> {
+fn name_at<'a>(rt: &impl Env, i: usize, space: &'a mut [u8]) -> Option<&'a [u8]>
+    ensures { IfSome result (λ s. length s.now ≤ length space.old) }
+{
     match rt.arg(i, space) {
         Ok(n) => Some(&space[..n]),
         Err(FillError::TooLong) => Some(b""),
