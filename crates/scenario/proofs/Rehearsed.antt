@@ -1,7 +1,7 @@
 -- What the code of a rehearsal does at each turn is what the report of a text says.
 use Rattle.std.proofs.Common.{◌≡◌, ℕ, ◌+◌, ◌*◌, ◌/◌, ◌<◌, ◌≤◌, true, false, List, ◌++◌, length, take, drop, Result, Ok, Err, refl, sym, ap, ◌∙◌, arith, le-ltb, lt-ltb, ne_eqb}
 use lib.Seq.{sets, sets-eq, take-append_seam}
-use Rattle.protocol.specs.State.{max_sites, max_events}
+use Rattle.protocol.specs.State.{max_sites, max_txns, max_events}
 use Rattle.protocol.specs.Setup.{setup_of}
 use Rattle.protocol.specs.Range.{in_range}
 use Rattle.protocol.specs.Run.{events_of, state_after, answers_of, sent_by, run_answer, run, answers_after}
@@ -39,9 +39,9 @@ module _ (s : State) (numbers : List ℕ) (h : Shaped s) (r : in_range s ≡ tru
   ends : ran ≡ record { answer = 0; sent = sent_by s events; state = state_after s events }
   ends = e ∙ run-done s events (length old) goes
 
-  -- the last state has no more sites than a setup takes
-  pub ends_fit : ran.state.sites ≤ max_sites
-  ends_fit = rw ends (last_fits s numbers h r few).0
+  -- the last state has no more sites and transactions than a setup takes
+  pub ends_fit : (ran.state.sites ≤ max_sites) × (ran.state.count ≤ max_txns)
+  ends_fit = rw ends (last_fits s numbers h r few)
 
   -- the first of the places for answers hold those of the events, so the lines are those of the run
   pub lines : end_lines (take (length numbers / 7) answers) ran.state ran.sent ≡ run_lines s numbers

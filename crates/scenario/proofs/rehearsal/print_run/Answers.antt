@@ -7,7 +7,7 @@ use Rattle.scenario.proofs.rehearsal.print_run.Goals as goal
 pub run-requires : goal.run-requires
 run-requires c =
     let asked = c.requires in
-    ends_fit c.args.s c.args.numbers.now asked.0 asked.1 asked.2 _ _ _ c.run-r.ensures.1 c.run-r.ensures.0 (omega arith)
+    (ends_fit c.args.s c.args.numbers.now asked.0 asked.1 asked.2 _ _ _ c.run-r.ensures.1 c.run-r.ensures.0 (omega arith)).0
 
 pub returns : goal.returns
 returns c =
