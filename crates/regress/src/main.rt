@@ -10,6 +10,7 @@ use shared::{read_full, report};
 use std::env::FillError;
 use std::fmt::Write;
 use std::fs::File;
+use std::io::Read;
 use std::rt::{Env, Files};
 use std::{io, str};
 
@@ -20,20 +21,26 @@ fn open<R: Files>(rt: &R, name: &str, end: &str) -> Option<R::File> {
     File::open(rt, path.as_str()).ok()
 }
 
-// Whether the report of the scenario is the stored one, or None where a file is missing. Both are opened before either is
-// read. A path is text, so a name that is not UTF-8 has no file. One byte more is read than a text or a report may have, so
-// that a longer file is noticed.
-fn same(rt: &impl Files, name: &[u8]) -> Option<bool> {
+// Whether the report of the scenario in the one file is what the other holds. One byte more is read than a text or a report
+// may have, so that a longer file is noticed. It is not inlined, so that its buffers are not cleared where a file is missing.
+#[inline(never)]
+fn agree<F: Read + Drop>(scenario: F, stored: F) -> bool {
     let mut text = [0u8; MAX_TEXT + 1];
-    let mut stored = [0u8; REPORT_ROOM + 1];
+    let mut space = [0u8; REPORT_ROOM + 1];
     let mut out = [0u8; REPORT_ROOM];
+    let text = read_full(scenario, &mut text);
+    let stored = read_full(stored, &mut space);
+    report(text, &mut out) == stored
+}
+
+// Whether the report of the scenario is the stored one, or None where a file is missing. Both are opened before either is
+// read. A path is text, so a name that is not UTF-8 has no file.
+fn same(rt: &impl Files, name: &[u8]) -> Option<bool> {
     let name = str::from_utf8(name).ok()?;
     let scenario = open(rt, name, ".scenario");
-    let report_file = open(rt, name, ".report");
-    let (scenario, report_file) = scenario.zip(report_file)?;
-    let text = read_full(scenario, &mut text);
-    let stored = read_full(report_file, &mut stored);
-    Some(report(text, &mut out) == stored)
+    let stored = open(rt, name, ".report");
+    let (scenario, stored) = scenario.zip(stored)?;
+    Some(agree(scenario, stored))
 }
 
 // Writes to standard output. A write that fails is passed over: what is missing shows in what came out.
