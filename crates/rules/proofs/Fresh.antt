@@ -1,22 +1,25 @@
 -- What the functions below setup make of the entries is the fresh state, and what they answer is setup's answer.
-use Rattle.std.specs.Prelude.{◌==◌, ◌&&◌, nat_lt, nat_le}
-use Prim.Native.Nat.{ℕ, ◌≤◌, ◌<◌}
+use Rattle.std.specs.Prelude.{◌==◌, ◌&&◌, nat_lt, nat_le, slice_index_or}
+use Rattle.std.proofs.lemmas.List.{get_or-replicate}
+use Prim.Native.Nat.{ℕ, ◌≤◌, ◌<◌, min}
 use mathlib.Core.Path.{◌≡◌, refl, sym, ap, ◌∙◌, fun_ext}
 use mathlib.Core.Bool.{Bool, true, false, not, cond, and-false}
 use mathlib.Core.List.{List, []}
 use native.Mathlib.Omega.{arith}
-use lib.ListN.{length, get_or-eq_default}
-use borrow.Author.Tests.{leb-true, lt-leb, ltb-true, ltb-false}
+use lib.ListN.{length, replicate, get_or-eq_default}
+use lib.Seq.{ext_get_or}
+use borrow.Author.Tests.{leb-true, lt-leb, lt-ltb, le-ltb, ltb-true, ltb-false}
 use Rattle.laws.specs.Tests.{Test, yes_so, not_so, test, both_right}
-use Rattle.laws.specs.Lists.{length-table, get_or-table}
+use Rattle.laws.specs.Lists.{length-each, get_or-each, length-table, get_or-table}
 use Rattle.protocol.specs.Lists.{table, table_from, each, each_from}
-use Rattle.protocol.specs.State.{max_txns, empty_state, no_txn, txn_in}
+use Rattle.protocol.specs.State.{max_txns, idle, start, empty_state, no_txn, txn_in}
 use Rattle.protocol.specs.Check.{first_of}
 use Rattle.protocol.specs.Setup.{Started, sites_fine, count_fine, entry_at, fresh_row, fresh_txn, fresh_state, setup_checks, setup_answer, setup, setup_of}
 use Rattle.protocol.specs.declared.Entry.{Entry}
 use Rattle.protocol.specs.declared.Txn.{Txn}
 use Rattle.protocol.specs.declared.State.{State}
-use Rattle.rules.specs.Copied.{from_entry, entry_of, refusal_with, begun_with, judged_with, judged_of}
+use Rattle.rules.specs.Copied.{from_entry, entry_of, started_row, refusal_with, begun_with, judged_with, judged_of}
+use Rattle.rules.proofs.Loops.{each_to}
 
 -- where the count is fine there is room
 pub few : (n : ℕ) → count_fine n ≡ true → n ≤ max_txns
@@ -32,6 +35,27 @@ accepted false b m h = absurd (omega arith)
 pub few_accepted : (sites n : ℕ) (e : ℕ → Entry) → 0 ≡ refusal_with sites n e → n ≤ max_txns
 unfolding first_of
 few_accepted sites n e h = few n (accepted (sites_fine sites) (count_fine n) _ h)
+
+-- ---- rows
+
+-- the statuses at site i, all idle, with start for those of the first k that have their home there
+abbrev pub row_to : (ℕ → ℕ) → ℕ → ℕ → List ℕ
+row_to home i k = each_to (λ t x. cond (home t == i) start x) k (replicate max_txns idle)
+
+-- .. which is the row of a fresh state where k are all that there is room for
+pub row_begun : (home : ℕ → ℕ) (i n k : ℕ) → k ≡ min n max_txns → row_to home i k ≡ (started_row n home i).status
+row_begun home i n k e =
+    ext_get_or idle (row_to home i k) (started_row n home i).status (length-each _ (replicate max_txns idle) ∙ sym (length-table _ max_txns))
+    (λ j h. go j (omega (arith, length-each (λ t x. cond (nat_lt t k) (cond (home t == i) start x) x) (replicate max_txns idle))) (test (nat_lt j n)))
+  where
+    go : (j : ℕ) → j < max_txns → Test (nat_lt j n)
+        → slice_index_or (row_to home i k) j idle ≡ slice_index_or (started_row n home i).status j idle
+    go j h (yes_so b) =
+        get_or-each _ (replicate max_txns idle) j idle h
+        ∙ rw (lt-ltb j k (omega (arith, ltb-true j n b)), get_or-replicate max_txns j idle idle h, get_or-table (λ t. cond (nat_lt t n && home t == i) start idle) max_txns j idle h, b)
+    go j h (not_so b) =
+        get_or-each _ (replicate max_txns idle) j idle h
+        ∙ rw (le-ltb j k (omega (arith, ltb-false j n b)), get_or-replicate max_txns j idle idle h, get_or-table (λ t. cond (nat_lt t n && home t == i) start idle) max_txns j idle h, b)
 
 -- the empty state with these transactions
 abbrev pub empty_with : List Txn → State

@@ -71,6 +71,12 @@ module _ {A : Type 0} (f : ℕ → A → A) where
       → set w k v ≡ each_to (k + 1) l
   each_again d k l w v e h p = each_turned d k l w v e h (p ∙ ap (f k) (each_read k l w d e h))
 
+  -- a turn that leaves the element, as f does
+  pub each_passed : (d : A) (k : ℕ) (l w : List A) → w ≡ each_to k l → k < length l → slice_index_or l k d ≡ f k (slice_index_or l k d)
+      → w ≡ each_to (k + 1) l
+  each_passed d k l w e h p =
+      each_next d k l w (each-length k l w e) (each_read k l w d e h ∙ p) (λ j o. ap (λ (x : List A). slice_index_or x j d) e)
+
   pub each-ended : (d : A) (k : ℕ) (l w : List A) → w ≡ each_to k l → length l ≤ k → w ≡ each f l
   each-ended d k l w e h =
       e

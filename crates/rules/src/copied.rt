@@ -75,11 +75,12 @@ pub(crate) fn with_entry(x: Txn, e: Entry) -> Txn
 fn started_row(n: usize, xs: &[Txn; 32], i: usize) -> Row
     ensures { result ≡ started_row n (λ t. (txn_in xs.now t).home) i }
 {
-    let status = array::from_fn(|t| if t < n && xs[t].home as usize == i {
-        START
-    } else {
-        IDLE
-    });
+    let mut status = [IDLE; 32];
+    for t in 0..n.min(32) {
+        if xs[t].home as usize == i {
+            status[t] = START;
+        }
+    }
     Row { status }
 }
 

@@ -1,5 +1,5 @@
 -- Each transaction has its entry, so `judged` makes of the state what setup promises.
-use Rattle.std.proofs.Common.{◌∙◌, arith, rules, tests}
+use Rattle.std.proofs.Common.{◌∙◌, rules, tests}
 use Rattle.protocol.specs.State.{empty_state, no_txn}
 use Rattle.rules.proofs.Fresh.{all_entered, setup_judged}
 use Rattle.rules.proofs.Loops.{each_begun, each_again, each-ended}
