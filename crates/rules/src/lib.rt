@@ -61,7 +61,7 @@ pub(crate) struct Turn {
 }
 
 // Sets up the sites and the lent table of transactions. This is the only function that touches the table. The state is made
-// in one place and changed there, as copies of it took half of a setup's time.
+// in one place and changed there, as copies of it would double a setup's time.
 pub fn setup(sites: u32, table: &[Entry]) -> Answered<()>
     ensures { started result ≡ setup sites table.now }
 {

@@ -55,8 +55,8 @@ impl<'a> Printer<'a> {
         }
     }
 
-    // A key. Where all of it has a place it is copied at once. It is inlined, as are the lines that begin with one, so that
-    // its length is known and the copy is a few stores in place of a call.
+    // A key. Where all of it and a byte more have a place it is copied at once. It is inlined, as are the lines that begin with
+    // one, so that its length is known and the copy is a few stores in place of a call.
     #[inline(always)]
     fn key(&mut self, key: &[u8])
         ensures { self.new ≡ printed self.old key.now }
@@ -78,7 +78,8 @@ impl<'a> Printer<'a> {
         self.bytes(text.format(n).as_bytes());
     }
 
-    // The decimal of n. Most are a digit alone, which is stored at once.
+    // The decimal of n. Most are a digit alone, which is stored at once: the library takes several times the instructions for
+    // it.
     #[inline(always)]
     fn number(&mut self, n: u32)
         ensures { self.new ≡ printed self.old (digits n) }
